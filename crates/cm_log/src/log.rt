@@ -72,7 +72,7 @@ impl Log {
     {
         match self {
             Log::Script(log) => log.read_line(alloc, w, line),
-            Log::Strace(log) => log.read_line(alloc, w, line),
+            Log::Strace(log) => log.tracer.feed_line(alloc, w, line, &mut log.events),
         }
     }
 

@@ -1,16 +1,14 @@
-// The reading of a log of strace(1), line by line, as its session gives it.
-ghost use Rattle.std.specs.Prelude.{◌≡◌, ◌≢◌, ◌<◌, ◌^◌};
-ghost use Rattle.cm_base.specs.Limits.{greatest_number};
+// A log of strace(1) by its session, which reads it line by line: how it begins, and how it ends.
+ghost use Rattle.std.specs.Prelude.{◌≡◌, ◌≢◌};
 ghost use Rattle.cm_base.specs.Outcome.{OrNoMemory};
 ghost use Rattle.cm_declared.specs.World.{world_of};
-ghost use Rattle.cm_lines.specs.Cut.{Cut, before, ends_by};
+ghost use Rattle.cm_lines.specs.Cut.{Cut, ends_by};
 ghost use Rattle.cm_log.specs.Counts.{Counts};
 ghost use Rattle.cm_log.specs.Left.{told_then, EndsAgain};
 ghost use Rattle.cm_log.specs.declared.log.Log.TheVariants.{Strace};
 ghost use Rattle.model_run.specs.Within.{IsWithin};
-ghost use Rattle.model_strace.specs.Counts.{spaces_counted};
 ghost use Rattle.model_strace.specs.Lines.{strace_of_cut};
-ghost use Rattle.model_strace.specs.Rest.{first_session, lines_fed, rest};
+ghost use Rattle.model_strace.specs.Rest.{first_session, rest};
 
 use cm_base::NoMemory;
 use cm_declared::{Placed, World};
@@ -21,7 +19,7 @@ use std::alloc::Global;
 /// The session of a log of strace, and the events that the last line told, or the end.
 #[derive(Debug, Drop)]
 pub struct StraceLog {
-    tracer: Tracer,
+    pub(crate) tracer: Tracer,
     pub(crate) events: Vec<Placed>,
 }
 
@@ -38,26 +36,6 @@ impl StraceLog {
             tracer,
             events: Vec::new(alloc),
         })
-    }
-
-    /// A line comes. It fails only where memory runs out.
-    #[inline]
-    pub(crate) fn read_line(
-        &mut self,
-        alloc: Global,
-        w: &World,
-        line: &[u8],
-    ) -> Result<Stage, NoMemory>
-        requires lines { lines_fed self.old.tracer < 2 ^ 63 }
-        requires spaces { spaces_counted self.old.tracer < greatest_number }
-        ensures told { OrNoMemory result (λ stage. (cut : Cut)
-            → rest (world_of w.now) self.old.tracer (before line.now cut)
-            ≡ told_then self.new.events.items stage (rest (world_of w.now) self.new.tracer cut)) }
-        ensures again { OrNoMemory result (λ stage. (cut : Cut)
-            → EndsAgain stage (rest (world_of w.now) self.new.tracer cut)) }
-        ensures counts { OrNoMemory result (λ _. Counts 1 self.new.events.items (Strace self.old) (Strace self.new)) }
-    {
-        self.tracer.feed_line(alloc, w, line, &mut self.events)
     }
 
     /// No line comes any more. It fails only where memory runs out.

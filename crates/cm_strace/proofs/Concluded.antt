@@ -1,12 +1,10 @@
 -- A line that is read and done: with no held lines of a child, or with them.
-use Rattle.std.proofs.Common.{◌≡◌, ℕ, ◌+◌, Bool, false, length, List, [], None, ◌∙◌, ap, refl, sym, append-nil}
-use Rattle.std.specs.Prelude.{Result, Ok, Err}
-use Rattle.cm_base.specs.Outcome.{OrNoMemory}
-use Rattle.cm_base.specs.declared.memory.NoMemory.{NoMemory}
+use Rattle.std.proofs.Common.{◌≡◌, ℕ, ◌+◌, false, length, List, None, ◌∙◌, ap, refl}
 use Rattle.cm_strace.specs.Answers.{stop_is}
-use Rattle.cm_strace.specs.Deeds.{child_of, deed_is, is_resumed, left_of, line_turn}
+use Rattle.cm_strace.specs.Deeds.{child_of, line_turn}
 use Rattle.cm_strace.specs.Given.{Gave, born_is, read_is}
 use Rattle.cm_strace.specs.Works.{awaits, concluded}
+use Rattle.cm_strace.specs.declared.deed.Birth.{Birth}
 use Rattle.cm_strace.specs.declared.deed.Deed.{Deed}
 use Rattle.cm_strace.specs.declared.deed.Deed.TheVariants as deed
 use Rattle.cm_strace.specs.declared.deed.Origin.{Origin}
@@ -15,12 +13,11 @@ use Rattle.cm_strace.specs.declared.stage.Stage.TheVariants as stage
 use Rattle.cm_strace.proofs.HeldLines.{any_none}
 use Rattle.cm_strace.proofs.Released.{goes_alone, halts_then, next_none, released_none}
 use Rattle.model_cred.specs.World.{World}
-use Rattle.model_strace.specs.After.{After, Goes, Halts, and_then, preceded}
-use Rattle.model_strace.specs.Body.{Body, body_of}
+use Rattle.model_strace.specs.After.{and_then, preceded}
 use Rattle.model_strace.specs.Lines.{Line, Read, next_line, given_at}
 use Rattle.model_strace.specs.Parts.{Parts}
 use Rattle.model_strace.specs.Rest.{Work, read_fed, released}
-use Rattle.model_strace.specs.Turn.{Turn, body_turn, turn}
+use Rattle.model_strace.specs.Turn.{Turn, turn}
 use Rattle.model_text.specs.Reading.{Placed}
 
 -- no line is next after a deed that no lines wait for
@@ -32,6 +29,11 @@ born_alone deed.Ends lines p alone = refl
 born_alone deed.Quiet lines p alone = refl
 born_alone (deed.Refused why) lines p alone = refl
 born_alone (deed.Exceeds limit) lines p alone = refl
+
+-- no lines wait for a deed that is no birth
+pub awaited_by_none : (lines : List Line) (d : Deed) → ((birth : Birth) → d ≡ deed.Bears birth → ⊥) → awaits lines d ≡ false
+awaited_by_none lines (deed.Bears birth) other = absurd (other birth refl)
+awaited_by_none lines _ other = refl
 
 -- then nothing follows the deed
 pub concluded_alone : (w : World) (at : Stage) (es fs : List Placed) (origin : Origin) (d : Deed) (t : Work) (p : Parts)
@@ -47,14 +49,6 @@ concluded_alone w (stage.Stopped stop) es fs origin d t p alone is =
     (λ (r : Read). released w (length t.held) r.born (record t { parts = r.parts })) is
 concluded_alone w stage.Finished es fs origin d t p alone is = absurd is
 
--- what the deed of a body does is what its text does
-pub deed_turn : (w : World) (pid : ℕ) (resumed : Bool) (body : Body) (text : List ℕ) (d : Deed) (p old : Parts)
-    → resumed ≡ is_resumed body → body ≡ body_of text
-    → deed_is pid d (left_of (is_resumed body) pid p) ≡ body_turn w pid body old
-    → deed_is pid d (left_of resumed pid p) ≡ turn w pid text old
-deed_turn w pid resumed body text d p old one two is =
-    ap (λ (b : Bool). deed_is pid d (left_of b pid p)) one ∙ is ∙ ap (λ (b : Body). body_turn w pid b old) two
-
 -- a line is read where its deed is known
 pub concluded_read : (w : World) (origin : Origin) (body : List ℕ) (d : Deed) (p : Parts) (old : Work)
     → line_turn origin d p ≡ turn w origin.pid body old.parts → origin.line ≡ old.count + 1
@@ -66,22 +60,3 @@ concluded_read w origin body d p old is line =
     (record old { parts = r.parts; count = old.count + 1 }))) line
     ∙ ap (λ (t : Turn). and_then (given_at (old.count + 1) t) (λ r. released w (length old.held) r.born
     (record old { parts = r.parts; count = old.count + 1 }))) is
-
--- what holds at each world holds at one
-pub at_world : {T E : Type 0} (r : Result T E) (P : World → T → Type 0) (w : World)
-    → OrNoMemory r (λ x. (v : World) → P v x) → OrNoMemory r (P w)
-at_world (Ok x) P w h = h w
-at_world (Err e) P w h = h
-
--- what gave nothing but a stop gives it after earlier events
-gave_after : (at : Stage) (events : List Placed) (t : Work) (a : After Work) → Gave at [] t a
-    → Gave at events t (preceded events a)
-gave_after stage.Going events t a is = ap (λ es. Goes es t) (sym (append-nil events)) ∙ ap (preceded events) is
-gave_after (stage.Stopped stop) events t a is = ap (λ es. Halts es (stop_is stop)) (sym (append-nil events))
-    ∙ ap (preceded events) is
-gave_after stage.Finished events t a is = absurd is
-
-pub held_on : (r : Result Stage NoMemory) (events : List Placed) (t : Work) (a : After Work)
-    → OrNoMemory r (λ at. Gave at [] t a) → OrNoMemory r (λ at. Gave at events t (preceded events a))
-held_on (Ok at) events t a is = gave_after at events t a is
-held_on (Err e) events t a is = tt

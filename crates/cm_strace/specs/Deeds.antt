@@ -6,7 +6,6 @@ use Rattle.cm_strace.specs.declared.deed.Deed.{Deed}
 use Rattle.cm_strace.specs.declared.deed.Deed.TheVariants as deed
 use Rattle.cm_strace.specs.declared.deed.Origin.{Origin}
 use Rattle.model_cred.specs.Call as model
-use Rattle.model_strace.specs.Body.{Body, Resumed}
 use Rattle.model_strace.specs.Parts.{Parts, without_kept, after_end}
 use Rattle.model_strace.specs.Written.{call_name, without_32}
 use Rattle.model_strace.specs.Turn.{Turn, Quiet, Refused, Exceeds, gives, done, gives_birth, with_child}
@@ -20,11 +19,6 @@ deed_is pid (deed.Does call answer) p = done pid (call_of call) answer p
 deed_is pid (deed.Bears birth) p = gives_birth pid birth.child birth.user
     (with_child pid birth.child birth.user birth.shares p)
 deed_is pid deed.Ends p = gives (after_end pid p) pid model.Exit res.Done
-
--- the body is the rest of a call whose beginning is kept
-abbrev pub is_resumed : Body → Bool
-is_resumed (Resumed name rest) = true
-is_resumed _ = false
 
 -- the parts, without the text that is kept of a process whose call was resumed
 abbrev pub left_of : Bool → ℕ → Parts → Parts

@@ -1,61 +1,65 @@
-// What the body of a line does to what is known (model_strace/specs, Turn). What gives an event is left to be done.
+// What the body of a line does to what is known, and what a call that is told does (model_strace/specs, Turn). What gives
+// an event is left to be done.
 ghost use Rattle.std.specs.Prelude.{◌≡◌, ℕ, ◌++◌, option_map, IsTrue, List, Some};
 ghost use Rattle.std.specs.declared.vec.Vec.{Vec};
 ghost use Rattle.std.specs.declared.alloc.Global.{Global};
 ghost use Rattle.cm_base.specs.Outcome.{OrNoMemory};
-ghost use Rattle.cm_strace.specs.Deeds.{begun_text, deed_is, is_resumed, left_of, Waits};
-ghost use Rattle.cm_strace.specs.Shapes.{is_on_descriptors, shape_turn};
-ghost use Rattle.cm_strace_calls.specs.Told.{listed_is};
+ghost use Rattle.cm_strace.specs.Deeds.{begun_text, deed_is, left_of, Waits};
+ghost use Rattle.cm_strace.specs.Shapes.{shape_turn};
+ghost use Rattle.cm_strace_calls.specs.Told.{told_is};
 ghost use Rattle.cm_strace_parts.specs.Savepoints.{LeftOnErr};
-ghost use Rattle.cm_strace_text.specs.Lines.{body_is};
 ghost use Rattle.cm_declared.specs.World.{world_of};
 ghost use Rattle.model_cred.specs.World as model;
-ghost use Rattle.model_strace.specs.Calls.{call_told, listed_told};
+ghost use Rattle.model_strace.specs.Body.{body_of};
+ghost use Rattle.model_strace.specs.Calls.{call_told};
 ghost use Rattle.model_strace.specs.Parts as known;
 ghost use Rattle.model_strace.specs.Parts.{kept_of, without_kept};
 ghost use Rattle.model_strace.specs.Turn.{Quiet, begins, body_turn, resumes, told_turn};
 ghost use Rattle.model_strace.specs.Written.{written_of};
 
 use crate::deed::Deed;
-use crate::told::take;
+use crate::opens::opens;
+use crate::told::{bears, copies, copies_to, joins};
+use crate::writes::writes;
 use cm_base::{LineFault, NoMemory, Pid};
 use cm_declared::World;
-use cm_strace_calls::{Listed, ReadFor, named_call, read_call, read_named};
+use cm_strace_calls::{ReadFor, Told, named_call, read_call, read_named};
 use cm_strace_parts::Parts;
-use cm_strace_text::{Body, call_name, ends_name, read_written, without_32};
+use cm_strace_text::{Body, call_name, ends_name, read_body, read_written, without_32};
 use std::alloc::Global;
 
-/// The body is the rest of a call whose beginning is kept.
-pub(crate) fn is_resumed(body: Body<'_>) -> bool
-    ensures { result ≡ is_resumed (body_is body.entry) }
-{
-    matches!(body, Body::Resumed(..))
-}
-
-/// What the body of a line of a process does. It fails only where memory runs out, and then leaves the parts as they
-/// were, or to be rolled back.
+/// What the body of a line of a process does, and whether it is the rest of a call whose beginning is kept. It fails
+/// only where memory runs out, and then leaves the parts as they were, or to be rolled back.
 pub(crate) fn read_deed(
     alloc: Global,
     w: &World,
     parts: &mut Parts,
     pid: Pid,
-    body: Body<'_>,
-) -> Result<Deed, NoMemory>
-    ensures turn { OrNoMemory result (λ deed.
-        deed_is pid deed (left_of (is_resumed (body_is body.entry)) pid parts.new.known)
-        ≡ body_turn (world_of w.now) pid (body_is body.entry) parts.old.known) }
+    body: &[u8],
+) -> Result<(Deed, bool), NoMemory>
+    ensures turn { OrNoMemory result (λ read. deed_is pid read.0 (left_of read.1 pid parts.new.known)
+        ≡ body_turn (world_of w.now) pid (body_of body.now) parts.old.known) }
     ensures saved { parts.new.saved ≡ parts.old.saved }
     ensures unchanged { LeftOnErr result parts.new parts.old }
-    ensures waits { OrNoMemory result (λ deed. Waits deed parts.new parts.old) }
+    ensures waits { OrNoMemory result (λ read. Waits read.0 parts.new parts.old) }
     ensures spaces { OrNoMemory result (λ _. parts.new.known.spaces ≡ parts.old.known.spaces) }
 {
-    match body {
-        Body::Whole(text) => whole(alloc, w, parts, pid, text),
-        Body::Begun(text) => begin(alloc, parts, pid, text),
-        Body::Resumed(name, rest) => resume(alloc, w, parts, pid, name, rest),
-        Body::Silent => Ok(Deed::Quiet),
-        Body::Ends => Ok(Deed::Ends),
-        Body::Superseded => Ok(Deed::Refused(LineFault::Superseded)),
+    match read_body(body) {
+        Body::Whole(text) => {
+            let deed = whole(alloc, w, parts, pid, text)?;
+            Ok((deed, false))
+        }
+        Body::Begun(text) => {
+            let deed = begin(alloc, parts, pid, text)?;
+            Ok((deed, false))
+        }
+        Body::Resumed(name, rest) => {
+            let deed = resume(alloc, w, parts, pid, name, rest)?;
+            Ok((deed, true))
+        }
+        Body::Silent => Ok((Deed::Quiet, false)),
+        Body::Ends => Ok((Deed::Ends, false)),
+        Body::Superseded => Ok((Deed::Refused(LineFault::Superseded), false)),
     }
 }
 
@@ -91,34 +95,16 @@ fn whole(
     ensures waits { OrNoMemory result (λ deed. Waits deed parts.new parts.old) }
     ensures spaces { OrNoMemory result (λ _. parts.new.known.spaces ≡ parts.old.known.spaces) }
 {
-    let call = match named_call(text) {
-        Some(call) => call,
-        None => return Ok(Deed::Quiet),
+    let Some(call) = named_call(text) else {
+        return Ok(Deed::Quiet);
     };
-    if is_idle(parts, pid, call) {
-        return Ok(shape_deed(text));
-    }
-    let told = read_named(alloc, w, pid, call, text)?;
-    take(alloc, parts, pid, told)
-}
-
-// Of the call its shape alone tells, since it is one on descriptors, of which none is followed of the process.
-#[tactic(auto, using(crate::proofs::Idle::idle))]
-fn is_idle(parts: &Parts, pid: Pid, call: Listed) -> bool
-    ensures { IsTrue result → (w : model.World) (text : List ℕ)
-        → told_turn pid (listed_told w pid (Some (listed_is call)) text) parts.now.known
-        ≡ shape_turn (written_of text) parts.now.known }
-{
-    is_on_descriptors(call) && !parts.has_descriptor(pid)
-}
-
-// The call is read for the descriptor that it is made on.
-fn is_on_descriptors(call: Listed) -> bool
-    ensures { result ≡ is_on_descriptors (listed_is call) }
-{
     match call.read_for {
-        ReadFor::Close | ReadFor::Dup | ReadFor::DupTo | ReadFor::Fcntl | ReadFor::Write => true,
-        _ => false,
+        ReadFor::Close | ReadFor::Dup | ReadFor::DupTo | ReadFor::Fcntl | ReadFor::Write
+            if !parts.has_descriptor(pid) => Ok(shape_deed(text)),
+        _ => {
+            let told = read_named(alloc, w, pid, call, text)?;
+            take(alloc, parts, pid, told)
+        }
     }
 }
 
@@ -225,4 +211,34 @@ fn whole_resumed(
 {
     let told = read_call(alloc, w, pid, text)?;
     take(alloc, parts, pid, told)
+}
+
+// ---- what is told
+
+// What a call that is told does. It fails only where memory runs out, and then leaves the parts as they were, or to be
+// rolled back.
+fn take(alloc: Global, parts: &mut Parts, pid: Pid, told: Told<'_>) -> Result<Deed, NoMemory>
+    ensures turn { OrNoMemory result (λ deed. deed_is pid deed parts.new.known
+        ≡ told_turn pid (told_is told.entry) parts.old.known) }
+    ensures saved { parts.new.saved ≡ parts.old.saved }
+    ensures unchanged { LeftOnErr result parts.new parts.old }
+    ensures waits { OrNoMemory result (λ deed. Waits deed parts.new parts.old) }
+    ensures spaces { OrNoMemory result (λ _. parts.new.known.spaces ≡ parts.old.known.spaces) }
+{
+    match told {
+        Told::Nothing => Ok(Deed::Quiet),
+        Told::Faulty(why) => Ok(Deed::Refused(why)),
+        Told::Exceeds(limit) => Ok(Deed::Exceeds(limit)),
+        Told::Does(call, answer) => Ok(Deed::Does(call, answer)),
+        Told::Bears(user, shares, answer) => Ok(bears(parts, pid, user, shares, answer)),
+        Told::Joins(number, flags, outcome) => Ok(joins(parts, pid, number, flags, outcome)),
+        Told::Opens(opening, number) => opens(alloc, parts, pid, opening, number),
+        Told::Closes(number) => {
+            parts.forget_descriptor(alloc, pid, u64::from(number))?;
+            Ok(Deed::Quiet)
+        }
+        Told::Copies(number) => Ok(copies(parts, pid, number)),
+        Told::CopiesTo(from, number) => copies_to(alloc, parts, pid, from, number),
+        Told::Writes(number, text, outcome) => writes(alloc, parts, pid, number, text, outcome),
+    }
 }

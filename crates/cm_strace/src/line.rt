@@ -12,13 +12,12 @@ ghost use Rattle.model_strace.specs.Lines.{is_line_of, read_line};
 ghost use Rattle.model_strace.specs.Rest.{without_first};
 
 use crate::acts::conclude;
-use crate::body::{is_resumed, read_deed};
+use crate::body::read_deed;
 use crate::deed::Origin;
 use crate::stage::Stage;
 use cm_base::{NoMemory, Pid};
 use cm_declared::{Placed, World};
 use cm_strace_parts::Parts;
-use cm_strace_text::read_body;
 use std::alloc::Global;
 use std::marker::Model;
 
@@ -68,13 +67,12 @@ impl Line {
         ensures saved { parts.new.saved ≡ parts.old.saved }
         ensures spaces { OrNoMemory result (λ _. parts.new.known.spaces ≤ parts.old.known.spaces + 1) }
     {
-        let body = read_body(&self.body);
+        let (deed, resumed) = read_deed(alloc, w, parts, self.pid, &self.body)?;
         let origin = Origin {
             line: self.number,
             pid: self.pid,
-            resumed: is_resumed(body),
+            resumed,
         };
-        let deed = read_deed(alloc, w, parts, self.pid, body)?;
         let born = deed.child();
         let stage = conclude(alloc, parts, origin, deed, events)?;
         Ok((stage, born))

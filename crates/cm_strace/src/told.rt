@@ -1,71 +1,35 @@
-// What a call that is told does to what is known (model_strace/specs, Turn). What gives an event is left to be done.
+// What births, setns(2) and copies of descriptors do to what is known, as calls that are told (model_strace/specs, Turn).
+// What gives an event is left to be done.
 ghost use Rattle.std.specs.Prelude.{◌≡◌, ℕ, Some};
 ghost use Rattle.cm_base.specs.Outcome.{OrNoMemory};
 ghost use Rattle.cm_base.specs.declared.res.Res.TheVariants.{Child};
 ghost use Rattle.cm_state.specs.Call.{call_of};
 ghost use Rattle.cm_strace.specs.Deeds.{deed_is, Waits};
-ghost use Rattle.cm_strace_calls.specs.Told.{told_is};
 ghost use Rattle.cm_strace_parts.specs.Savepoints.{LeftOnErr};
 ghost use Rattle.cm_strace_values.specs.Outcomes.{outcome_is};
 ghost use Rattle.model_strace.specs.Parts as known;
 ghost use Rattle.model_strace.specs.Parts.{descriptor_of};
-ghost use Rattle.model_strace.specs.Turn.{told_turn, birth_call, bears, followed, for_space, joins_unknown, joins};
+ghost use Rattle.model_strace.specs.Turn.{birth_call, bears, followed, for_space, joins_unknown, joins};
 ghost use Rattle.model_strace.specs.Turn.{copies, copies_to};
 
 use crate::deed::{Birth, Deed};
-use crate::opens::opens;
-use crate::writes::writes;
 use cm_base::{LineFault, NoMemory, Pid, Res};
 use cm_state::Call;
-use cm_strace_calls::Told;
 use cm_strace_parts::{Descriptor, Parts};
 use cm_strace_values::{Outcome, has_flag};
 use std::alloc::Global;
 
-/// What a call that is told does. It fails only where memory runs out, and then leaves the parts as they were, or to be
-/// rolled back.
-pub(crate) fn take(
-    alloc: Global,
-    parts: &mut Parts,
-    pid: Pid,
-    told: Told<'_>,
-) -> Result<Deed, NoMemory>
-    ensures turn { OrNoMemory result (λ deed. deed_is pid deed parts.new.known
-        ≡ told_turn pid (told_is told.entry) parts.old.known) }
-    ensures saved { parts.new.saved ≡ parts.old.saved }
-    ensures unchanged { LeftOnErr result parts.new parts.old }
-    ensures waits { OrNoMemory result (λ deed. Waits deed parts.new parts.old) }
-    ensures spaces { OrNoMemory result (λ _. parts.new.known.spaces ≡ parts.old.known.spaces) }
-{
-    match told {
-        Told::Nothing => Ok(Deed::Quiet),
-        Told::Faulty(why) => Ok(Deed::Refused(why)),
-        Told::Exceeds(limit) => Ok(Deed::Exceeds(limit)),
-        Told::Does(call, answer) => Ok(Deed::Does(call, answer)),
-        Told::Bears(user, shares, answer) => Ok(bears(parts, pid, user, shares, answer)),
-        Told::Joins(number, flags, outcome) => Ok(joins(parts, pid, number, flags, outcome)),
-        Told::Opens(opening, number) => opens(alloc, parts, pid, opening, number),
-        Told::Closes(number) => {
-            parts.forget_descriptor(alloc, pid, u64::from(number))?;
-            Ok(Deed::Quiet)
-        }
-        Told::Copies(number) => Ok(copies(parts, pid, number)),
-        Told::CopiesTo(from, number) => copies_to(alloc, parts, pid, from, number),
-        Told::Writes(number, text, outcome) => writes(alloc, parts, pid, number, text, outcome),
-    }
-}
-
 // ---- births
 
-// The call of a birth.
+/// The call of a birth.
 pub(crate) fn birth_call(user: bool) -> Call
     ensures { call_of result ≡ birth_call user }
 {
     if user { Call::CloneUser } else { Call::Fork }
 }
 
-// A birth with its result: followed descriptors can't be shared.
-fn bears(parts: &Parts, pid: Pid, user: bool, shares: bool, answer: Res) -> Deed
+/// A birth with its result: followed descriptors can't be shared.
+pub(crate) fn bears(parts: &Parts, pid: Pid, user: bool, shares: bool, answer: Res) -> Deed
     ensures { deed_is pid result parts.now.known ≡ bears pid user shares answer parts.now.known }
 {
     match answer {
@@ -110,8 +74,14 @@ fn for_space(parts: &Parts, pid: Pid, number: Option<u32>) -> Option<Descriptor>
     }
 }
 
-// A setns on a descriptor.
-fn joins(parts: &Parts, pid: Pid, number: Option<u32>, flags: &[u8], outcome: Outcome) -> Deed
+/// A setns on a descriptor.
+pub(crate) fn joins(
+    parts: &Parts,
+    pid: Pid,
+    number: Option<u32>,
+    flags: &[u8],
+    outcome: Outcome,
+) -> Deed
     ensures { deed_is pid result parts.now.known ≡ joins pid (for_space (followed pid number parts.now.known)) flags.now
         (outcome_is outcome) parts.now.known }
 {
@@ -152,8 +122,8 @@ fn joins_known(d: &Descriptor, flags: &[u8], outcome: Outcome) -> Deed
 
 // ---- dup(2)
 
-// The copy of a descriptor, which can't be followed.
-fn copies(parts: &Parts, pid: Pid, number: u32) -> Deed
+/// The copy of a descriptor, which can't be followed.
+pub(crate) fn copies(parts: &Parts, pid: Pid, number: u32) -> Deed
     ensures { deed_is pid result parts.now.known ≡ copies (descriptor_of pid number parts.now.known) parts.now.known }
 {
     match parts.descriptor_of(pid, u64::from(number)) {
@@ -162,9 +132,9 @@ fn copies(parts: &Parts, pid: Pid, number: u32) -> Deed
     }
 }
 
-// A copy that takes the place of another descriptor. It fails only where memory runs out, and then leaves the parts as
-// they were, or to be rolled back.
-fn copies_to(
+/// A copy that takes the place of another descriptor. It fails only where memory runs out, and then leaves the parts as
+/// they were, or to be rolled back.
+pub(crate) fn copies_to(
     alloc: Global,
     parts: &mut Parts,
     pid: Pid,

@@ -1,22 +1,18 @@
 // A session that goes on: what is known, the held lines, and how many lines came (model_strace/specs, Rest). All lines
 // are read in place. Before a line that bears a child with held lines a savepoint of what is known is set, to which it
 // is rolled back where memory runs out; the held lines are read where they stand and go out at the end.
-ghost use Rattle.std.specs.Prelude.{◌≡◌, ℕ, [], ◌+◌, ◌<◌, ◌≤◌, ◌^◌, false, IsTrue, OnErr};
+ghost use Rattle.std.specs.Prelude.{◌≡◌, [], ◌+◌, ◌<◌, ◌≤◌, ◌^◌};
 ghost use Rattle.cm_base.specs.Limits.{greatest_number};
 ghost use Rattle.cm_base.specs.Outcome.{OrNoMemory, UnchangedOnErr};
-ghost use Rattle.cm_strace.specs.Deeds.{deed_is, left_of, GivesEvent};
 ghost use Rattle.cm_strace.specs.Given.{Gave};
-ghost use Rattle.cm_strace.specs.Works.{awaits, concluded, uses};
+ghost use Rattle.cm_strace.specs.Works.{concluded, uses};
 ghost use Rattle.cm_declared.specs.World.{world_of};
-ghost use Rattle.model_cred.specs.World as model;
 ghost use Rattle.model_strace.specs.After.{preceded};
-ghost use Rattle.model_strace.specs.Parts as known;
-ghost use Rattle.model_strace.specs.Turn.{Quiet};
 ghost use Rattle.model_strace.specs.Rest.{fed, first_work, held_fed, read_fed};
 
 use crate::acts::conclude;
 use crate::births::read_on;
-use crate::body::{is_resumed, read_deed};
+use crate::body::read_deed;
 use crate::deed::{Deed, Origin};
 use crate::line::{Line, has_line, remove_taken};
 use crate::stage::{Stage, Stop};
@@ -24,7 +20,7 @@ use crate::waiting::Waiting;
 use cm_base::{Limited, LineFault, NoMemory, Pid};
 use cm_declared::{Placed, World};
 use cm_strace_parts::Parts;
-use cm_strace_text::{PidLine, read_body, read_row};
+use cm_strace_text::{PidLine, read_row};
 use std::alloc::Global;
 use std::marker::Model;
 
@@ -94,11 +90,11 @@ impl Work {
     {
         match read_row(line) {
             PidLine::Blank => {
-                self.pass();
+                self.count += 1;
                 Ok(Stage::Going)
             }
             PidLine::NoPid => {
-                self.pass();
+                self.count += 1;
                 Ok(Stage::Stopped(Stop::Fault(self.count, LineFault::Pid)))
             }
             PidLine::Of(pid, body) => if self.parts.is_known(pid) {
@@ -120,17 +116,18 @@ impl Work {
         ensures counted { OrNoMemory result (λ _. self.new.count ≡ self.old.count + 1) }
     {
         if self.held.len() as u64 >= Limited::Held.number() {
-            self.pass();
+            self.count += 1;
             return Ok(Stage::Stopped(Stop::Limit(Limited::Held)));
         }
         let number = self.count + 1;
         let l = Line::new(alloc, number, pid, body)?;
         self.held.push(l)?;
-        self.pass();
+        self.count = number;
         Ok(Stage::Going)
     }
 
-    // The line is read, and after it the held lines of those that it gave birth to.
+    // The line is read, and after it the held lines of those that it gave birth to. Of most lines nothing is left to be
+    // done; the deed of one that no held line waits for is done in place.
     fn read(
         &mut self,
         alloc: Global,
@@ -148,51 +145,23 @@ impl Work {
         ensures uses { uses self.new ≤ uses self.old + 1 }
         ensures counted { OrNoMemory result (λ _. self.new.count ≡ self.old.count + 1) }
     {
-        let told = read_body(body);
-        let resumed = is_resumed(told);
-        let deed = read_deed(alloc, w, &mut self.parts, pid, told)?;
-        if is_done(&deed, resumed) {
-            self.pass();
-            return Ok(Stage::Going);
-        }
+        let (deed, resumed) = read_deed(alloc, w, &mut self.parts, pid, body)?;
         let line = self.count + 1;
         let origin = Origin { line, pid, resumed };
-        if awaits(&self.held, &deed) {
-            self.read_birth(alloc, w, origin, deed, events)
-        } else {
-            self.read_here(alloc, origin, deed, events)
+        match &deed {
+            Deed::Quiet if !resumed => {
+                self.count = line;
+                Ok(Stage::Going)
+            }
+            Deed::Bears(birth) if has_line(&self.held, birth.child) => {
+                self.read_birth(alloc, w, origin, deed, events)
+            }
+            _ => {
+                let stage = conclude(alloc, &mut self.parts, origin, deed, events)?;
+                self.count = line;
+                Ok(stage)
+            }
         }
-    }
-
-    // One line more came.
-    fn pass(&mut self)
-        requires { self.old.count < 2 ^ 63 }
-        ensures { self.new ≡ record self.old { count = self.old.count + 1 } }
-    {
-        self.count += 1;
-    }
-
-    // The deed of a line is done in place, where no line waits for a child of it.
-    fn read_here(
-        &mut self,
-        alloc: Global,
-        origin: Origin,
-        deed: Deed,
-        events: &mut Vec<Placed>,
-    ) -> Result<Stage, NoMemory>
-        requires room { self.old.parts.spaces < greatest_number }
-        requires few { self.old.count < 2 ^ 63 }
-        requires alone { awaits self.old.held deed ≡ false }
-        ensures done { OrNoMemory result (λ stage. (w : model.World) → Gave stage events.new.items self.new
-            (preceded events.old.items (concluded w origin deed (record self.old { count = self.old.count + 1 })))) }
-        ensures unchanged { UnchangedOnErr result self.new self.old }
-        ensures event { OnErr result (GivesEvent deed) }
-        ensures uses { uses self.new ≤ uses self.old + 1 }
-        ensures counted { OrNoMemory result (λ _. self.new.count ≡ self.old.count + 1) }
-    {
-        let stage = conclude(alloc, &mut self.parts, origin, deed, events)?;
-        self.pass();
-        Ok(stage)
     }
 
     // The deed of a line is done, and after it the held lines of a child are read where they stand; those that were
@@ -239,22 +208,5 @@ impl Work {
                 Err(out)
             }
         }
-    }
-}
-
-// Nothing more is to be done of the line, as of most.
-fn is_done(deed: &Deed, resumed: bool) -> bool
-    ensures { IsTrue result → (pid : ℕ) (p : known.Parts) → deed_is pid deed.now (left_of resumed pid p) ≡ Quiet p }
-{
-    matches!(deed, Deed::Quiet) && !resumed
-}
-
-// Lines are held of the child that a deed bears.
-fn awaits(held: &[Line], deed: &Deed) -> bool
-    ensures { result ≡ awaits held.now deed.now }
-{
-    match deed {
-        Deed::Bears(birth) => has_line(held, birth.child),
-        _ => false,
     }
 }

@@ -1,43 +1,37 @@
-use Rattle.std.proofs.Common.{◌+◌, ◌∙◌, refl, sym}
+use Rattle.std.proofs.Common.{◌≡◌, ◌+◌, ◌∙◌, false, refl, sym, ap}
 use Rattle.cm_declared.specs.World.{world_of}
-use Rattle.cm_strace.specs.Given.{Gave}
-use Rattle.cm_strace.specs.Works.{concluded}
-use Rattle.cm_strace.specs.declared.deed.Origin.{Origin}
-use Rattle.cm_strace.proofs.Concluded.{at_world, concluded_read, deed_turn}
+use Rattle.cm_strace.proofs.Concluded.{awaited_by_none, concluded_alone, concluded_read}
 use Rattle.cm_strace.proofs.Quiet.{quiet_read}
 use Rattle.cm_strace.proofs.work.Work.read.Goals as goal
-use Rattle.cm_strace_text.specs.Lines.{body_is}
-use Rattle.model_strace.specs.After.{preceded}
+use Rattle.cm_strace.specs.Works.{awaits}
+use Rattle.cm_strace.specs.declared.deed.Origin.{Origin}
 use Rattle.model_strace.specs.Rest.{Work}
 
-pub returns-then-is_done-clause-read : goal.returns-then-is_done-clause-read
-returns-then-is_done-clause-read c =
+pub returns-in-Quiet-clause-read : goal.returns-in-Quiet-clause-read
+returns-in-Quiet-clause-read c =
     let w = world_of c.args.w.now in
     let t : Work =
     record { parts = c.self.inside.parts.known; held = c.self.inside.held.items; count = c.self.inside.count } in
-    let turn_is = deed_turn w c.args.pid c.is_resumed-resumed.result
-    (body_is c.read_body-told.result) c.args.body.now c.in_ok-deed.deed
-    c.read_deed.new.parts.known t.parts c.is_resumed-resumed.ensures c.read_body-told.ensures
-    c.in_ok-deed.ensures.turn in
-    rw (← c.self.view_is, c.pass.ensures)
+    rw (← c.self.view_is)
     (quiet_read w c.args.pid c.args.body.now c.read_deed.new.parts.known t c.args.events.now.items
-    (sym turn_is ∙ c.if-is_done.ensures refl c.args.pid c.read_deed.new.parts.known))
+    (sym c.in_ok-deed.ensures.turn ∙ rw (c.in-Quiet.is, c.if-not-resumed.true) refl))
 
-pub returns-else-awaits-clause-read : goal.returns-else-awaits-clause-read
-returns-else-awaits-clause-read c =
+pub returns-in_default-clause-read : goal.returns-in_default-clause-read
+returns-in_default-clause-read c =
     let w = world_of c.args.w.now in
     let t : Work =
     record { parts = c.self.inside.parts.known; held = c.self.inside.held.items; count = c.self.inside.count } in
     let now : Work = record { parts = c.read_deed.new.parts.known; held = t.held; count = t.count + 1 } in
-    let origin : Origin = record { line = t.count + 1; pid = c.args.pid; resumed = c.is_resumed-resumed.result } in
-    let turn_is = deed_turn w c.args.pid c.is_resumed-resumed.result
-    (body_is c.read_body-told.result) c.args.body.now c.in_ok-deed.deed
-    c.read_deed.new.parts.known t.parts c.is_resumed-resumed.ensures c.read_body-told.ensures
-    c.in_ok-deed.ensures.turn in
+    let origin : Origin = record { line = t.count + 1; pid = c.args.pid; resumed = c.in_ok-deed.resumed } in
+    let alone : awaits t.held c.in_ok-deed.deed ≡ false = elim c.in_default.branch [
+      | goal.in_default-via-in-Quiet w ↦ ap (awaits t.held) w.in-Quiet.is
+      | goal.in_default-via-in-Bears w ↦ ap (awaits t.held) w.in-Bears.is ∙ sym w.has_line.ensures ∙ w.if-has_line.false
+      | goal.in_default-via-in_default w ↦ awaited_by_none t.held c.in_ok-deed.deed w.in_default.not-Bears
+    ] in
     rw (
       ← c.self.view_is,
       ← concluded_read w origin c.args.body.now c.in_ok-deed.deed c.read_deed.new.parts.known t
-          turn_is refl,
+          c.in_ok-deed.ensures.turn refl,
     )
-    (at_world c.read_here.result (λ w stage. Gave stage c.read_here.new.events.items c.read_here.new.self
-    (preceded c.args.events.now.items (concluded w origin c.in_ok-deed.deed now))) w c.read_here.ensures.done)
+    (concluded_alone w c.in_ok-stage.stage c.args.events.now.items c.conclude.new.events.items origin c.in_ok-deed.deed now
+    c.conclude.new.parts.known alone c.in_ok-stage.ensures.given)
