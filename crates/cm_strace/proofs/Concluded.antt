@@ -1,5 +1,6 @@
 -- A line that is read and done: with no held lines of a child, or with them.
-use Rattle.std.proofs.Common.{◌≡◌, ℕ, ◌+◌, false, length, List, None, ◌∙◌, ap, refl}
+use Rattle.std.proofs.Common.{◌≡◌, ℕ, ◌+◌, Bool, false, length, List, None, ◌∙◌, ap, refl, sym}
+use Rattle.std.specs.List.{list_any}
 use Rattle.cm_strace.specs.Answers.{stop_is}
 use Rattle.cm_strace.specs.Deeds.{child_of, line_turn}
 use Rattle.cm_strace.specs.Given.{Gave, born_is, read_is}
@@ -14,7 +15,7 @@ use Rattle.cm_strace.proofs.HeldLines.{any_none}
 use Rattle.cm_strace.proofs.Released.{goes_alone, halts_then, next_none, released_none}
 use Rattle.model_cred.specs.World.{World}
 use Rattle.model_strace.specs.After.{and_then, preceded}
-use Rattle.model_strace.specs.Lines.{Line, Read, next_line, given_at}
+use Rattle.model_strace.specs.Lines.{Line, Read, is_line_of, next_line, given_at}
 use Rattle.model_strace.specs.Parts.{Parts}
 use Rattle.model_strace.specs.Rest.{Work, read_fed, released}
 use Rattle.model_strace.specs.Turn.{Turn, turn}
@@ -34,6 +35,12 @@ born_alone (deed.Exceeds limit) lines p alone = refl
 pub awaited_by_none : (lines : List Line) (d : Deed) → ((birth : Birth) → d ≡ deed.Bears birth → ⊥) → awaits lines d ≡ false
 awaited_by_none lines (deed.Bears birth) other = absurd (other birth refl)
 awaited_by_none lines _ other = refl
+
+-- nor for a birth of whose child none is held
+pub awaited_by_no_line : (lines held : List Line) (d : Deed) (birth : Birth) (has : Bool) → d ≡ deed.Bears birth
+    → has ≡ list_any (is_line_of birth.child) held → held ≡ lines → has ≡ false → awaits lines d ≡ false
+awaited_by_no_line lines held d birth has is any same none =
+    ap (awaits lines) is ∙ ap (list_any (is_line_of birth.child)) (sym same) ∙ sym any ∙ none
 
 -- then nothing follows the deed
 pub concluded_alone : (w : World) (at : Stage) (es fs : List Placed) (origin : Origin) (d : Deed) (t : Work) (p : Parts)

@@ -1,5 +1,5 @@
 -- What is left to be done of a line, in the words of the definitions.
-use Rattle.std.specs.Prelude.{◌≡◌, ℕ, Bool, true, false, List, ◌++◌, bytes_eq, Option, Some, None, if◌then◌else◌}
+use Rattle.std.specs.Prelude.{◌≡◌, ℕ, Bool, List, ◌++◌, bytes_eq, Option, Some, None, if◌then◌else◌}
 use Rattle.cm_base.specs.declared.res.Res.TheVariants as res
 use Rattle.cm_state.specs.Call.{call_of}
 use Rattle.cm_strace.specs.declared.deed.Deed.{Deed}

@@ -1,4 +1,4 @@
-use Rattle.std.proofs.Common.{◌≡◌, ◌∙◌, true, ap, sym, inl, inr, refl}
+use Rattle.std.proofs.Common.{◌≡◌, ◌∙◌, true, ap, sym, inl, inr}
 use Rattle.cm_declared.specs.World.{world_of}
 use Rattle.cm_strace.proofs.Idle.{idle}
 use Rattle.cm_strace.proofs.body.whole.Goals as goal
@@ -8,8 +8,8 @@ use Rattle.model_strace.specs.Calls.{listed_told}
 use Rattle.model_strace.specs.Turn.{told_turn}
 
 -- of a call on descriptors, of which none is followed, its shape alone tells
-pub returns-then-not-has_descriptor-clause-turn : goal.returns-then-not-has_descriptor-clause-turn
-returns-then-not-has_descriptor-clause-turn c =
+pub returns-in-Close-clause-turn : goal.returns-in-Close-clause-turn
+returns-in-Close-clause-turn c =
     let w = world_of c.args.w.now in
     let p = c.args.parts.now.known in
     let text = c.args.text.now in

@@ -4,8 +4,8 @@ use Rattle.cm_strace_calls.proofs.call.named_call.Goals as goal
 use Rattle.cm_strace_calls.specs.Told.{read_for_is}
 use Rattle.cm_strace_values.specs.Tables.{rows_of}
 
-pub returns-in_default : goal.returns-in_default
-returns-in_default c = short_names_none c.args.text.now c.in_default.len_below
+pub returns-in_default-text : goal.returns-in_default-text
+returns-in_default-text c = short_names_none c.args.text.now c.in_default-text.len_below
 
 pub returns-in-len2-up : goal.returns-in-len2-up
 returns-in-len2-up c =
