@@ -34,5 +34,5 @@ returns-in_ok-stage-in_default-clause-read c =
       ← concluded_read w origin c.args.body.now c.in_ok-deed.deed c.read_deed.new.parts.known t
           c.in_ok-deed.ensures.turn refl,
     )
-    (concluded_alone w c.in_ok-stage.stage c.args.events.now.items c.conclude.new.events.items origin c.in_ok-deed.deed now
-    c.conclude.new.parts.known alone c.in_ok-stage.ensures.given)
+    (concluded_alone w c.in_ok-stage-in_default.stage c.args.events.now.items c.conclude.new.events.items origin c.in_ok-deed.deed now
+    c.conclude.new.parts.known alone c.in_ok-stage-in_default.ensures.given)
