@@ -32,7 +32,8 @@ born_alone (deed.Refused why) lines p alone = refl
 born_alone (deed.Exceeds limit) lines p alone = refl
 
 -- no lines wait for a deed that is no birth
-pub awaited_by_none : (lines : List Line) (d : Deed) → ((birth : Birth) → d ≡ deed.Bears birth → ⊥) → awaits lines d ≡ false
+pub awaited_by_none : (lines : List Line) (d : Deed) → ((birth : Birth) → d ≡ deed.Bears birth → ⊥)
+    → awaits lines d ≡ false
 awaited_by_none lines (deed.Bears birth) other = absurd (other birth refl)
 awaited_by_none lines _ other = refl
 

@@ -1,5 +1,5 @@
-// What the body of a line does to what is known, and what a call that is told does (model_strace/specs, Turn). What gives
-// an event is left to be done.
+// What the body of a line does to what is known, and what a call that is told does (model_strace/specs, Turn). What
+// gives an event is left to be done.
 ghost use Rattle.std.specs.Prelude.{◌≡◌, ℕ, ◌++◌, option_map, IsTrue, List, Some};
 ghost use Rattle.std.specs.declared.vec.Vec.{Vec};
 ghost use Rattle.std.specs.declared.alloc.Global.{Global};

@@ -1,5 +1,5 @@
-// What births, setns(2) and copies of descriptors do to what is known, as calls that are told (model_strace/specs, Turn).
-// What gives an event is left to be done.
+// What births, setns(2) and copies of descriptors do to what is known, as calls that are told (model_strace/specs,
+// Turn). What gives an event is left to be done.
 ghost use Rattle.std.specs.Prelude.{◌≡◌, ℕ, Some};
 ghost use Rattle.cm_base.specs.Outcome.{OrNoMemory};
 ghost use Rattle.cm_base.specs.declared.res.Res.TheVariants.{Child};

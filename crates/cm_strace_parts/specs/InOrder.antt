@@ -17,8 +17,10 @@ pub record SavedInOrder (ts : Option (List Task)) (ks : Option (List Kept)) (fs 
   pub files : is_some fs ≡ is_some ts
   pub counted : IfSome fs (λ fs. Counted fs followed)
 
--- Such lists, and each pid that is noted as known is, and each that is noted as bare has no descriptor that is followed.
-pub record InOrder (ts : Tracked Task) (ks : Tracked Kept) (fs : Tracked FdList) (followed saved_followed : ℕ) (known_slots bare_slots : List ℕ) : Type 0 where
+-- Such lists, and each pid that is noted as known is, and each that is noted as bare has no descriptor that is
+-- followed.
+pub record InOrder (ts : Tracked Task) (ks : Tracked Kept) (fs : Tracked FdList) (followed saved_followed : ℕ)
+    (known_slots bare_slots : List ℕ) : Type 0 where
   pub counted : Counted fs.items followed
   pub saved : SavedInOrder ts.saved ks.saved fs.saved saved_followed
   pub noted : NotesKnown known_slots ts.items

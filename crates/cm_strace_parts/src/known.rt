@@ -1,6 +1,6 @@
-// Pids of which something is known without a search: that they are those of processes, or that none of their descriptors
-// is followed. A slot for each remainder of pids holds the last one that was noted of those with that remainder: of a
-// pid that isn't noted the same may be true.
+// Pids of which something is known without a search: that they are those of processes, or that none of their
+// descriptors is followed. A slot for each remainder of pids holds the last one that was noted of those with that
+// remainder: of a pid that isn't noted the same may be true.
 ghost use Rattle.std.specs.Prelude.{◌≡◌, ◌≢◌, ℕ, true, false};
 ghost use Rattle.cm_base.specs.Outcome.{OrNoMemory};
 ghost use Rattle.cm_strace_parts.specs.Slots.{notes, slot_count, slot_of, mark_of, NotesKnown};

@@ -26,7 +26,8 @@ returns-in_ok-stage-in_default-clause-read c =
     let alone : awaits t.held c.in_ok-deed.deed ≡ false = elim c.in_default.branch [
       | goal.in_default-via-in-Quiet+else-not-resumed w ↦ ap (awaits t.held) w.in-Quiet.is
       | goal.in_default-via-in-Bears+else-has_line w ↦
-          awaited_by_no_line t.held _ c.in_ok-deed.deed _ _ w.in-Bears.is w.has_line.ensures w.deref.ensures.value w.if-has_line.false
+          awaited_by_no_line t.held _ c.in_ok-deed.deed _ _ w.in-Bears.is w.has_line.ensures w.deref.ensures.value
+          w.if-has_line.false
       | goal.in_default-via-in_default w ↦ awaited_by_none t.held c.in_ok-deed.deed w.in_default.not-Bears
     ] in
     rw (
@@ -34,5 +35,5 @@ returns-in_ok-stage-in_default-clause-read c =
       ← concluded_read w origin c.args.body.now c.in_ok-deed.deed c.read_deed.new.parts.known t
           c.in_ok-deed.ensures.turn refl,
     )
-    (concluded_alone w c.in_ok-stage-in_default.stage c.args.events.now.items c.conclude.new.events.items origin c.in_ok-deed.deed now
-    c.conclude.new.parts.known alone c.in_ok-stage-in_default.ensures.given)
+    (concluded_alone w c.in_ok-stage-in_default.stage c.args.events.now.items c.conclude.new.events.items origin
+    c.in_ok-deed.deed now c.conclude.new.parts.known alone c.in_ok-stage-in_default.ensures.given)
