@@ -21,4 +21,4 @@ invariant_of-self-2 c = record {
 pub returns-then-has-clause-changed : goal.returns-then-has-clause-changed
 returns-then-has-clause-changed c =
     let same = none_closed c.args.pid c.self.invariant.bare (sym c.has.ensures ∙ c.if-has.true) in
-    rw c.self.view_is (same_parts _ _ same)
+    rw (← c.self.view_is) (same_parts _ _ same)

@@ -22,4 +22,4 @@ pub returns-then-has-clause-changed : goal.returns-then-has-clause-changed
 returns-then-has-clause-changed c =
     let same = none_forgotten c.args.pid c.args.number c.self.invariant.bare
     (sym c.has.ensures ∙ c.if-has.true) in
-    rw c.self.view_is (same_parts _ _ same)
+    rw (← c.self.view_is) (same_parts _ _ same)
