@@ -1,9 +1,10 @@
 -- Filters: sets of kinds of calls that are excluded (choice; as seccomp(2) lets a process exclude calls).
-use Rattle.std.specs.Prelude.{ℕ, ◌==◌, ◌^◌, Bool, not, bit_or, fold, is_none, option_map, position, unwrap_or, List, Option, Some, None}
-use Rattle.std.specs.Prelude.{Result, Ok, Err}
+use Rattle.std.specs.Prelude.{ℕ, ◌==◌, ◌<◌, ◌-◌, ◌^◌, Bool, not, bit_or, filter, fold, is_none, option_map, position, unwrap_or}
+use Rattle.std.specs.Prelude.{List, Option, Some, None, Result, Ok, Err}
 use Rattle.std.specs.Int.{bit_at}
+use Rattle.cm_base.specs.CapSet.{union, meet, without}
 use Rattle.cm_filter.specs.declared.kind.CallKind.{CallKind}
-use Rattle.cm_filter.specs.Kinds.{kind_named, kind_number}
+use Rattle.cm_filter.specs.Kinds.{call_kinds, kind_count, kind_named, kind_number}
 
 -- A filter is the set of the kinds that it excludes, as a number: bit k tells of the kind with number k (choice).
 abbrev pub Filter : Type 0
@@ -24,6 +25,34 @@ permits filter kind = not (excludes filter kind)
 -- the filter that excludes the kind too
 abbrev pub excluding : Filter → CallKind → Filter
 excluding filter kind = bit_or filter (2 ^ kind_number kind)
+
+-- the filter that excludes every kind
+abbrev pub every_kind : Filter
+every_kind = 2 ^ kind_count - 1
+
+-- the filter that excludes what either excludes (seccomp(2): a filter that is installed comes to those before)
+abbrev pub either : Filter → Filter → Filter
+either filter other = union filter other
+
+-- the filter that excludes what both exclude
+abbrev pub both : Filter → Filter → Filter
+both filter other = meet filter other
+
+-- the filter without the exclusion of the kind
+abbrev pub permitting : Filter → CallKind → Filter
+permitting filter kind = without filter (kind_number kind)
+
+-- the number has bits of kinds alone
+abbrev pub IsFilter : Filter → Type 0
+IsFilter filter = filter < 2 ^ kind_count
+
+-- the filter that excludes just these kinds
+abbrev pub filter_excluding : List CallKind → Filter
+filter_excluding kinds = fold excluding no_filter kinds
+
+-- the kinds that a filter excludes, in their order
+abbrev pub excluded_kinds : Filter → List CallKind
+excluded_kinds f = filter (excludes f) call_kinds
 
 -- the filter that excludes the call of the name too, the filter itself where it names none
 abbrev pub excluding_named : Filter → List ℕ → Filter

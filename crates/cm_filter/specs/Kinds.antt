@@ -32,6 +32,7 @@ call_name kind.WriteGidMap = codes "write_gid_map"
 call_name kind.WriteSetgroups = codes "write_setgroups"
 call_name kind.Exec = codes "execve"
 call_name kind.Exit = codes "exit"
+call_name kind.Install = codes "install"
 
 -- the kinds of calls, in their order
 abbrev pub call_kinds : List CallKind
@@ -40,7 +41,11 @@ call_kinds = kind.SetUid ∷ kind.SetReUid ∷ kind.SetResUid ∷ kind.SetFsUid
     ∷ kind.CapSet ∷ kind.BsetDrop ∷ kind.AmbRaise ∷ kind.AmbLower ∷ kind.AmbClear
     ∷ kind.SecureBits ∷ kind.KeepCaps ∷ kind.NoNewPrivs
     ∷ kind.Fork ∷ kind.CloneUser ∷ kind.Unshare ∷ kind.SetNs
-    ∷ kind.WriteUidMap ∷ kind.WriteGidMap ∷ kind.WriteSetgroups ∷ kind.Exec ∷ kind.Exit ∷ []
+    ∷ kind.WriteUidMap ∷ kind.WriteGidMap ∷ kind.WriteSetgroups ∷ kind.Exec ∷ kind.Exit ∷ kind.Install ∷ []
+
+-- how many kinds there are
+abbrev pub kind_count : ℕ
+kind_count = 27
 
 -- the call of the kind has that name
 abbrev pub has_name : List ℕ → CallKind → Bool

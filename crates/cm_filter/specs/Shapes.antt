@@ -6,10 +6,11 @@ use Rattle.cm_filter.specs.declared.kind.CallKind.{CallKind}
 use Rattle.cm_filter.specs.declared.kind.CallKind.TheVariants as kind
 use Rattle.cm_filter.specs.declared.shape.Shape.{Shape}
 use Rattle.cm_filter.specs.declared.shape.Shape.TheVariants.{Bare, OneId, TwoIds, ThreeIds, ManyIds, ThreeSets, OneCap, OneNumber}
-use Rattle.cm_filter.specs.declared.shape.Shape.TheVariants.{OneSpace, SpaceAndWord, SpaceAndMap, OneFile}
+use Rattle.cm_filter.specs.declared.shape.Shape.TheVariants.{OneSpace, SpaceAndWord, SpaceAndMap, OneFile, ManyKinds}
 
 -- ---- arguments
--- What an argument is: an id; a number; a capability; a set of capabilities; a space; a word of a setgroups file; a file.
+-- What an argument is: an id; a number; a capability; a set of capabilities; a space; a word of a setgroups file; a
+-- file; a kind of call.
 pub data Form : Type 0 where
   AnId : Form
   ANumber : Form
@@ -18,12 +19,15 @@ pub data Form : Type 0 where
   ASpace : Form
   AWord : Form
   AFile : Form
+  AKind : Form
 
--- The arguments of a call: just these; any number of ids; a space, and after it any number of triples of numbers.
+-- The arguments of a call: just these; any number of ids; a space, and after it any number of triples of numbers; any
+-- number of kinds, which make a filter.
 pub data Pattern : Type 0 where
   Just : List Form → Pattern
   Ids : Pattern
   Triples : Pattern
+  Kinds : Pattern
 
 -- the arguments of a call of the shape
 abbrev pub arguments_by : Shape → Pattern
@@ -39,9 +43,10 @@ arguments_by OneSpace = Just (ASpace ∷ [])
 arguments_by SpaceAndWord = Just (ASpace ∷ AWord ∷ [])
 arguments_by SpaceAndMap = Triples
 arguments_by OneFile = Just (AFile ∷ [])
+arguments_by ManyKinds = Kinds
 
 -- ---- results
--- What a call may answer: done or an error; done alone; the id from before; a child or an error.
+-- What a call may answer: done or an error; done alone; the id from before or EPERM; a child or an error.
 pub data ResultForm : Type 0 where
   DoneOrError : ResultForm
   DoneAlone : ResultForm
@@ -94,6 +99,7 @@ facts_of kind.WriteGidMap = facts SpaceAndMap DoneOrError Common
 facts_of kind.WriteSetgroups = facts SpaceAndWord DoneOrError Common
 facts_of kind.Exec = facts OneFile DoneOrError OfExecve
 facts_of kind.Exit = facts Bare DoneAlone NoErrors
+facts_of kind.Install = facts ManyKinds DoneOrError Common
 
 -- ---- what the table says of a kind
 -- the shape of its arguments

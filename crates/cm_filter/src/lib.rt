@@ -1,4 +1,4 @@
-//! The kinds of the 26 calls: their names in script lines, their order and their shapes, which stand here once, for the
+//! The kinds of the 27 calls: their names in script lines, their order and their shapes, which stand here once, for the
 //! definitions and for the code; and filters, which are sets of kinds that are excluded. Nothing here takes memory.
 #![tactic(auto)]
 

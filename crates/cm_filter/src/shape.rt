@@ -25,4 +25,6 @@ pub enum Shape {
     SpaceAndMap,
     /// A file.
     OneFile,
+    /// Any number of kinds of calls.
+    ManyKinds,
 }

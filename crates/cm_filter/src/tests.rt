@@ -1,9 +1,9 @@
 use crate::{CallKind, Filter, NoSuchCall, Shape};
 use std::test::Fail;
 
-// The names of the manual pages, but for prctl(2), clone(2), the files of user_namespaces(7), and _exit(2); and which
-// arguments these pages give the calls, of prctl(2) those after the operation.
-const NAMES: [(CallKind, &str, Shape); 26] = [
+// The names of the manual pages, but for prctl(2), clone(2), the files of user_namespaces(7), _exit(2) and seccomp(2);
+// and which arguments these pages give the calls, of prctl(2) those after the operation.
+const NAMES: [(CallKind, &str, Shape); 27] = [
     (CallKind::SetUid, "setuid", Shape::OneId),
     (CallKind::SetReUid, "setreuid", Shape::TwoIds),
     (CallKind::SetResUid, "setresuid", Shape::ThreeIds),
@@ -34,6 +34,7 @@ const NAMES: [(CallKind, &str, Shape); 26] = [
     ),
     (CallKind::Exec, "execve", Shape::OneFile),
     (CallKind::Exit, "exit", Shape::Bare),
+    (CallKind::Install, "install", Shape::ManyKinds),
 ];
 
 #[test]

@@ -7,7 +7,7 @@ use Rattle.std.specs.List.{list_any}
 use Rattle.std.proofs.lemmas.Bool.{false≢true, and_parts, and_from, or_cases, or_left, or_right, eqb-true, eq-eqb, cases_Bool, not-false}
 use Rattle.cm_base.specs.CapSet.{holds, is_within, union, meet, minus, none, with, without, single}
 use Rattle.cm_base.specs.declared.errno.Errno.{Errno}
-use Rattle.cm_base.specs.declared.errno.Errno.TheVariants.{EPERM, EINVAL}
+use Rattle.cm_base.specs.declared.errno.Errno.TheVariants.{EPERM, EINVAL, EACCES}
 use Rattle.cm_base.proofs.CapSets.{holds_none, holds_union, holds_meet, holds_minus, holds_single, member_of_wider}
 use Rattle.cm_base.proofs.CapSets.{within_from_members, within_reflexive, within_transitive, none_within}
 use Rattle.cm_base.proofs.CapSets.{meet_within_first, meet_within_second, union_within, minus_within}
@@ -15,7 +15,7 @@ use Rattle.cm_filter.specs.declared.kind.CallKind.{CallKind}
 use Rattle.cm_filter.specs.declared.kind.CallKind.TheVariants as kind
 use Rattle.model_cred.specs.Call.{Call, SetUid, SetReUid, SetResUid, SetFsUid, SetGid, SetReGid, SetResGid, SetFsGid}
 use Rattle.model_cred.specs.Call.{SetGroups, CapSet, BsetDrop, AmbRaise, AmbLower, AmbClear, SecureBits, KeepCaps}
-use Rattle.model_cred.specs.Call.{NoNewPrivs, Unshare, SetNs, Exec, kind_of}
+use Rattle.model_cred.specs.Call.{NoNewPrivs, Unshare, SetNs, Exec, Install, kind_of}
 use Rattle.model_cred.specs.Credential.{Credential, FourIds, id_set, insert_id}
 use Rattle.model_cred.specs.Files.{FileTable}
 use Rattle.model_cred.specs.IdMap.{Extent, down, extents_of, is_outside}
@@ -26,6 +26,7 @@ use Rattle.model_rules.specs.CapCalls.{has_setpcap, may_capset, with_capset, cap
 use Rattle.model_rules.specs.CapCalls.{amb_lower, amb_clear, may_secure, secure_bits, without_keep_caps, with_keep_caps}
 use Rattle.model_rules.specs.CapCalls.{set_keep_caps, set_no_new_privs}
 use Rattle.model_rules.specs.Fixups.{without_root, after_losing_root, following_effective, fixed_up, following_fs, fs_fixed_up}
+use Rattle.model_rules.specs.Install.{may_install}
 use Rattle.model_rules.specs.Reply.{reply}
 use Rattle.model_rules.specs.Securebits.{has_flag, keep_caps, no_setuid_fixup, no_cap_ambient_raise, lock_of, noroot, locks, locked_flags}
 use Rattle.model_rules.specs.SetGroups.{setgroups, with_groups, all_down, most_groups}
@@ -540,6 +541,8 @@ module _ (permitted : CallKind → Bool) (files : FileTable) (old : Spaces) (bou
   call_fine word (SecureBits bits) own allowed = secure_bits_fine allowed bits
   call_fine word (KeepCaps argument) own allowed = set_keep_caps_fine argument
   call_fine word (NoNewPrivs argument) own allowed = set_no_new_privs_fine argument
+  call_fine word (Install more) own allowed =
+      choose (λ (a : Answer). Fine (bounds row) a.cred) (may_install c) (done c) (refused EACCES c) (λ _. fine) (λ _. fine)
   call_fine word Unshare other allowed = absurd other
   call_fine word (SetNs target) other allowed = absurd other
   call_fine word (Exec f) other allowed = absurd other

@@ -15,18 +15,21 @@ use Rattle.model_cred.specs.Space.{Space, Spaces, IsTree, space_of, is_at_or_abo
 use Rattle.model_cred.specs.World.{World}
 use Rattle.model_run.specs.Holds.{process_holds, holds_for, holds_right}
 use Rattle.model_run.specs.Later.{is_member, members_after, Later}
+use Rattle.model_run.specs.Own.{may_call, shared_filter}
 use Rattle.model_box.specs.Row.{Part, EffectiveUids, EffectiveGids, Groups, PermittedCaps, Row, Standing, Fresh, HasMembers, space_under}
 use Rattle.model_box.specs.Files.{FilesFit}
 use Rattle.model_box.specs.Closed.{Closed}
-use Rattle.model_box.specs.Covers.{RowOf, SpacesStay, ParentsEarlier, Covers, CanStart, StateFits}
-use Rattle.model_box.specs.Parting.{InCell, cell_of, parting_then, LaterBy, OnlyFalls}
+use Rattle.model_box.specs.Covers.{RowOf, SpacesStay, ParentsEarlier, FiltersExclude, Covers, CanStart, StateFits}
+use Rattle.model_box.specs.Parting.{InCell, cell_of, parting_then, LaterBy}
 use Rattle.model_box.specs.Rule.{Create, Maps}
 use Rattle.model_box.specs.Covers as rows
+use Rattle.model_box.specs.Laws.{PermitsWithin}
 use Rattle.model_box.specs.Meets.{Meets, IsOverStanding}
 use Rattle.model_box.proofs.Trees.{Earlier, space_of_newest, space_of_older, at_or_above_low, power_cases, row_stands}
 use Rattle.model_box.proofs.Making.{row_here}
 use Rattle.model_box.proofs.Fits.{TreeFits, FilledAt, ClosedTogether, MemberFits, at_or_above_stays, next_stays}
 use Rattle.model_box.proofs.Steps.{row_for}
+use Rattle.model_box.proofs.Filtered.{only_falls, later_excludes}
 use Rattle.model_box.proofs.Runs.{Kept, later_kept}
 
 -- the spaces of a state are a tree
@@ -181,15 +184,12 @@ alone_closed permitted files old bounds closed = record {
   peopled = λ a standing made. made.1;
 }
 
--- under a filter that binds all alike
-all_alike : (permitted : CallKind → Bool) (w : World) (s : State) (members : List ℕ) (events : List Event) (later : State) (members_then : List ℕ)
-    → Later permitted w s members events later members_then → LaterBy (λ _ _. permitted) w s members events later members_then
-all_alike permitted w s members [] later members_then run = run
-all_alike permitted w s members (e ∷ es) later members_then (mid, caller, allowed, step, rest) =
-    (mid, caller, allowed, step, all_alike permitted w mid (members_after members e.pid e.call e.res) es later members_then rest)
-
-falls_alike : (permitted : CallKind → Bool) (w : World) → OnlyFalls w (λ _ _. permitted)
-falls_alike permitted w s e s' step = record { still = λ pid was is k held. held; child = λ pid born k held. held }
+-- in a later run each member may call what its own filter doesn't exclude
+each_by_its_own : (permitted : CallKind → Bool) (w : World) (s : State) (members : List ℕ) (events : List Event) (later : State) (members_then : List ℕ)
+    → Later permitted w s members events later members_then → LaterBy (may_call permitted) w s members events later members_then
+each_by_its_own permitted w s members [] later members_then run = run
+each_by_its_own permitted w s members (e ∷ es) later members_then (mid, caller, allowed, step, rest) =
+    (mid, caller, allowed, step, each_by_its_own permitted w mid (members_after members e.pid e.call e.res) es later members_then rest)
 
 -- there is no later space at the query
 none_later : (spaces : Spaces) (n a : ℕ) → RowOf (length spaces) spaces n (Fresh a) → ⊥
@@ -197,13 +197,17 @@ none_later spaces n a row =
     let late : length spaces ≤ n = (row_stands row).1 in
     let here : n < length spaces = row_here (omega arith) row in omega arith
 
-abbrev KeptAlone : (CallKind → Bool) → Spaces → (Row → Part → ℕ → Type 0) → State → List ℕ → List InCell → Type 0
-KeptAlone permitted old bounds = Kept old Alone (λ _. permitted) (λ _. bounds) bounds (MadeAlone bounds) (λ _ _. permitted)
+abbrev KeptAlone : (CallKind → Bool) → (CallKind → Bool) → Spaces → (Row → Part → ℕ → Type 0) → State → List ℕ → List InCell → Type 0
+KeptAlone permitted allowed old bounds = Kept old Alone (λ _. permitted) (λ _. bounds) bounds (MadeAlone bounds) (may_call allowed)
+
+-- the calls that each member may make at the query are permitted in closing the bounds
+abbrev pub MayAtMost : (CallKind → Bool) → State → List ℕ → (CallKind → Bool) → Type 0
+MayAtMost allowed s members permitted = (pid : ℕ) → IsTrue (is_member members pid) → PermitsWithin (may_call allowed s pid) permitted
 
 -- what the query keeps, as a run keeps it
-kept_at_start : (permitted : CallKind → Bool) (s : State) (members : List ℕ) (bounds : Row → Part → ℕ → Type 0) → CanStart s
-    → Covers s s members bounds → KeptAlone permitted s.spaces bounds s members []
-kept_at_start permitted s members bounds fits covers = record {
+kept_at_start : (permitted allowed : CallKind → Bool) (s : State) (members : List ℕ) (bounds : Row → Part → ℕ → Type 0) → CanStart s
+    → Covers s members s members bounds → MayAtMost allowed s members permitted → KeptAlone permitted allowed s.spaces bounds s members []
+kept_at_start permitted allowed s members bounds fits covers suits = record {
   spaces = record {
     tree = start_tree s fits covers.spaces_stay covers.parents;
     mapped = λ j cell. covers.maps_in;
@@ -212,7 +216,7 @@ kept_at_start permitted s members bounds fits covers = record {
   };
   members_kept = λ pid p member at. record {
     cell = tt;
-    less = λ k held. held;
+    less = suits pid member;
     fits = record {
       here = all_named (λ (q : Process). q.space < length s.spaces) s.processes fits.stands pid p at;
       held = λ row is part x has. covers.members_in pid p row member at is part x has;
@@ -222,37 +226,41 @@ kept_at_start permitted s members bounds fits covers = record {
   };
 }
 
-covers_kept : (permitted : CallKind → Bool) (old s : State) (members : List ℕ) (parting : List InCell) (bounds : Row → Part → ℕ → Type 0)
-    → KeptAlone permitted old.spaces bounds s members parting → Covers old s members bounds
-covers_kept permitted old s members parting bounds kept = record {
+covers_kept : (permitted allowed : CallKind → Bool) (old : State) (members_old : List ℕ) (s : State) (members : List ℕ) (parting : List InCell)
+    (bounds : Row → Part → ℕ → Type 0) → KeptAlone permitted allowed old.spaces bounds s members parting
+    → FiltersExclude (shared_filter old members_old) s members → Covers old members_old s members bounds
+covers_kept permitted allowed old members_old s members parting bounds kept filters = record {
   members_in = λ pid p row member at is part x has. (kept.members_kept pid p member at).fits.held row is part x has;
   spaces_stay = tree_stays old.spaces s.spaces kept.spaces.tree;
   maps_in = kept.spaces.mapped 0 tt;
   parents = kept.spaces.tree.parents;
   owners = kept.spaces.owners;
   filled = λ n a row. (kept.spaces.made n a row).0;
+  filters = filters;
 }
 
-module _ (permitted : CallKind → Bool) (w : World) (s : State) (members : List ℕ) (bounds : Row → Part → ℕ → Type 0)
-    (fits_now : CanStart s) (files_fit : FilesFit w.files s.spaces) (covers : Covers s s members bounds)
-    (closed : Closed permitted w.files s.spaces bounds) where
-  kept_then : (events : List Event) (later : State) (members_then : List ℕ) → Later permitted w s members events later members_then
-      → KeptAlone permitted s.spaces bounds later members_then (parting_then [] events)
+module _ (permitted allowed : CallKind → Bool) (w : World) (s : State) (members : List ℕ) (bounds : Row → Part → ℕ → Type 0)
+    (fits_now : CanStart s) (files_fit : FilesFit w.files s.spaces) (covers : Covers s members s members bounds)
+    (closed : Closed permitted w.files s.spaces bounds) (suits : MayAtMost allowed s members permitted) where
+  kept_then : (events : List Event) (later : State) (members_then : List ℕ) → Later allowed w s members events later members_then
+      → KeptAlone permitted allowed s.spaces bounds later members_then (parting_then [] events)
   kept_then events later members_then run =
-      later_kept w s.spaces Alone (λ _. permitted) permitted (λ _. bounds) bounds (MadeAlone bounds) (λ _ _. permitted)
-      (alone_closed permitted w.files s.spaces bounds closed) files_fit (falls_alike permitted w) s members [] events later members_then
-      (kept_at_start permitted s members bounds fits_now covers) (all_alike permitted w s members events later members_then run)
+      later_kept w s.spaces Alone (λ _. permitted) permitted (λ _. bounds) bounds (MadeAlone bounds) (may_call allowed)
+      (alone_closed permitted w.files s.spaces bounds closed) files_fit (only_falls allowed w) s members [] events later members_then
+      (kept_at_start permitted allowed s members bounds fits_now covers suits) (each_by_its_own allowed w s members events later members_then run)
 
   -- Bounds that cover the members at the query and are closed cover them after every later run.
-  pub soundness : (events : List Event) (later : State) (members_then : List ℕ) → Later permitted w s members events later members_then
-      → Covers s later members_then bounds
+  pub soundness : (events : List Event) (later : State) (members_then : List ℕ) → Later allowed w s members events later members_then
+      → Covers s members later members_then bounds
   soundness events later members_then run =
-      covers_kept permitted s later members_then (parting_then [] events) bounds (kept_then events later members_then run)
+      covers_kept permitted allowed s members later members_then (parting_then [] events) bounds (kept_then events later members_then run)
+      (later_excludes (shared_filter s members) w (may_call allowed) s members events later members_then
+      (each_by_its_own allowed w s members events later members_then run) covers.filters)
 
   -- Where they don't meet a right, no member holds it after any later run.
   pub exclusion : (right : Right) → IsOverStanding s.spaces right → (Meets s.spaces bounds right → ⊥)
       → (events : List Event) (later : State) (members_then : List ℕ)
-      → Later permitted w s members events later members_then → (pid : ℕ) → IsTrue (is_member members_then pid) → process_holds later pid right ≡ false
+      → Later allowed w s members events later members_then → (pid : ℕ) → IsTrue (is_member members_then pid) → process_holds later pid right ≡ false
   exclusion right standing apart events later members_then run pid member =
-      never_held s.spaces Alone (λ _. permitted) (λ _. bounds) bounds (MadeAlone bounds) (λ _ _. permitted) later members_then
+      never_held s.spaces Alone (λ _. permitted) (λ _. bounds) bounds (MadeAlone bounds) (may_call allowed) later members_then
       (parting_then [] events) (kept_then events later members_then run) right standing (λ j cell. apart) pid member

@@ -6,7 +6,8 @@ use Rattle.cm_base.specs.declared.errno.Errno.TheVariants.{EPERM, EAGAIN}
 use Rattle.cm_base.specs.declared.res.Res.{Res}
 use Rattle.cm_base.specs.declared.res.Res.TheVariants.{Done, Child, Err}
 use Rattle.model_cred.proofs.Spaces.{length_put}
-use Rattle.model_cred.specs.Call.{Call, Fork, CloneUser, Unshare, WriteUidMap, WriteGidMap, WriteSetgroups, Exit, Event}
+use Rattle.model_cred.specs.Call.{Call, Fork, CloneUser, Unshare, WriteUidMap, WriteGidMap, WriteSetgroups, Exit, Event, kind_of}
+use Rattle.cm_filter.specs.Filters.{excludes}
 use Rattle.model_cred.specs.Credential.{Credential}
 use Rattle.model_cred.specs.Files.{FileTable}
 use Rattle.model_cred.specs.Process.{Process, State, process_at, insert_process, is_pid}
@@ -17,10 +18,10 @@ use Rattle.model_rules.specs.Maps.{Written, UidMap, GidMap, with_map, may_say, w
 use Rattle.model_rules.specs.Namespaces.{unshare, clone_user}
 use Rattle.model_rules.specs.Power.{has_over}
 use Rattle.model_rules.specs.Reply.{spaces_with, spaces_after}
-use Rattle.model_run.specs.Outside.{comes_from_outside}
-use Rattle.model_run.specs.Ruling.{Ruling, ruling, own, birth, birth_unless, fork_child, clone_child}
+use Rattle.model_run.specs.Ruling.{Ruling, ruling, permitted_ruling, excluded_ruling, own, birth, birth_unless, fork_child, clone_child}
 use Rattle.model_run.specs.Same.{same_res}
 use Rattle.model_run.specs.Step.{Step, Run, Goes, NoSpace, PidInUse, Wrong, outcome_for, names_no_space, is_living_child, told_call, told_rules, told_child}
+use Rattle.model_run.specs.Step.{answers_from_outside}
 use Rattle.model_box.specs.Files.{FilesFit}
 use Rattle.model_box.proofs.Writing.{choose}
 use Rattle.model_box.proofs.MapWrites.{write_by}
@@ -65,13 +66,18 @@ unless_grows : (res : Res) (s : State) (baby : Process) (after : Spaces) → len
 unless_grows (Err e) s baby after more = omega arith
 unless_grows _ s baby after more = birth_grows s baby after more
 
-ruled_grows : (w : World) (s : State) (p : Process) (call : Call) (pid : ℕ) → length s.spaces ≤ length (ruling w s p call pid).state.spaces
-ruled_grows w s p Fork pid = birth_grows s (fork_child p pid) s.spaces (omega arith)
-ruled_grows w s p CloneUser pid =
+permitted_grows : (w : World) (s : State) (p : Process) (call : Call) (pid : ℕ) → length s.spaces ≤ length (permitted_ruling w s p call pid).state.spaces
+permitted_grows w s p Fork pid = birth_grows s (fork_child p pid) s.spaces (omega arith)
+permitted_grows w s p CloneUser pid =
     unless_grows (clone_user s.spaces p.space p.cred) s (clone_child s.spaces p pid)
     (spaces_after s.spaces p.space p.cred CloneUser) (after_grows s.spaces p.space p.cred CloneUser)
-ruled_grows w s p Exit pid = omega arith
-ruled_grows w s p call pid = after_grows s.spaces p.space p.cred call
+permitted_grows w s p Exit pid = omega arith
+permitted_grows w s p call pid = after_grows s.spaces p.space p.cred call
+
+ruled_grows : (w : World) (s : State) (p : Process) (call : Call) (pid : ℕ) → length s.spaces ≤ length (ruling w s p call pid).state.spaces
+ruled_grows w s p call pid =
+    choose (λ (r : Ruling). length s.spaces ≤ length r.state.spaces) (excludes p.filter (kind_of call)) (excluded_ruling s) (permitted_ruling w s p call pid)
+    (λ _. omega arith) (λ _. permitted_grows w s p call pid)
 
 -- an outcome goes to one state
 pub goes_to : (a b : State) → Goes a ≡ Goes b → a ≡ b
@@ -93,7 +99,7 @@ step_grows w s e s' step = named (process_at s.processes e.pid) step where
 
   living : (p : Process) (b : Bool) → (if b then PidInUse else told_call w s p e.call e.res) ≡ Goes s' → length s.spaces ≤ length s'.spaces
   living p true same = absurd (cc)
-  living p false same = outside p (comes_from_outside e.call e.res) same
+  living p false same = outside p (answers_from_outside p e.call e.res) same
 
   spaced : (p : Process) (b : Bool)
       → (if b then NoSpace else if is_living_child s.processes e.res then PidInUse else told_call w s p e.call e.res)

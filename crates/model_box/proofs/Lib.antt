@@ -17,10 +17,11 @@ pub mod Processes
 pub mod Steps
 pub mod Partings
 pub mod Runs
+pub mod Grows
+pub mod Filtered
 pub mod Excludes
 pub mod Starts
 pub mod Readers
-pub mod Grows
 pub mod Worlds
 pub mod Worked
 pub mod Stated

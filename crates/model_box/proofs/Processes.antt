@@ -74,6 +74,7 @@ pub record Remains (ps : List Process) (q : ℕ) (found : Process) : Type 0 wher
   pub named : process_at ps q ≡ Some was
   pub space : found.space ≡ was.space
   pub cred : found.cred ≡ was.cred
+  pub filter : found.filter ≡ was.filter
 
 pub without_found : (gone : Process) (ps : List Process) (q : ℕ) (found : Process) → process_at (without_process gone ps) q ≡ Some found
     → (q ≡ gone.pid → ⊥) × Remains ps q found
@@ -83,7 +84,7 @@ without_found gone (p ∷ ps) q found at =
     (not (eqb p.pid gone.pid)) (p ∷ filter (λ x. not (x.pid == gone.pid)) ps) (filter (λ x. not (x.pid == gone.pid)) ps)
     (here (without_found gone ps q found)) (there (without_found gone ps q found)) at where
       lifted : eqb p.pid q ≡ false → (q ≡ gone.pid → ⊥) × Remains ps q found → (q ≡ gone.pid → ⊥) × Remains (p ∷ ps) q found
-      lifted not_it rest = (rest.0, record { was = rest.1.was; named = at_tail p ps q not_it ∙ rest.1.named; space = rest.1.space; cred = rest.1.cred })
+      lifted not_it rest = (rest.0, record { was = rest.1.was; named = at_tail p ps q not_it ∙ rest.1.named; space = rest.1.space; cred = rest.1.cred; filter = rest.1.filter })
 
       there : (process_at (without_process gone ps) q ≡ Some found → (q ≡ gone.pid → ⊥) × Remains ps q found)
           → not (eqb p.pid gone.pid) ≡ false → process_at (without_process gone ps) q ≡ Some found → (q ≡ gone.pid → ⊥) × Remains (p ∷ ps) q found
@@ -103,6 +104,9 @@ without_found gone (p ∷ ps) q found at =
       cred_stays : (after_exit gone p).cred ≡ p.cred
       cred_stays = choose (λ (x : Process). x.cred ≡ p.cred) (is_the p.forebear gone.pid) (record p { forebear = gone.forebear }) p (λ _. refl) (λ _. refl)
 
+      filter_stays : (after_exit gone p).filter ≡ p.filter
+      filter_stays = choose (λ (x : Process). x.filter ≡ p.filter) (is_the p.forebear gone.pid) (record p { forebear = gone.forebear }) p (λ _. refl) (λ _. refl)
+
       here : (process_at (without_process gone ps) q ≡ Some found → (q ≡ gone.pid → ⊥) × Remains ps q found)
           → not (eqb p.pid gone.pid) ≡ true → process_at (after_exit gone p ∷ without_process gone ps) q ≡ Some found
           → (q ≡ gone.pid → ⊥) × Remains (p ∷ ps) q found
@@ -119,6 +123,7 @@ without_found gone (p ∷ ps) q found at =
                     named = at_head p ps q is;
                     space = sym (ap (λ (x : Process). x.space) same) ∙ space_stays;
                     cred = sym (ap (λ (x : Process). x.cred) same) ∙ cred_stays;
+                    filter = sym (ap (λ (x : Process). x.filter) same) ∙ filter_stays;
                   },
                 )
             | inr not_it ↦

@@ -1,12 +1,13 @@
 -- Whole runs: what covering bounds that are closed cover stays covered, and what they don't meet is never held.
 use Rattle.std.proofs.Common.{◌≡◌, ℕ, Bool, true, false, ◌||◌, not, Some, None, Option, List, [], ◌∷◌, refl, sym, ap, ◌∙◌, inl, inr}
 use Rattle.std.specs.Prelude.{◌⊎◌, IsTrue, is_some, nat_lt, if◌then◌else◌}
-use Rattle.std.proofs.lemmas.Bool.{or_right, not-false}
+use Rattle.std.proofs.lemmas.Bool.{or_right, not-false, and_parts}
 use Rattle.cm_base.specs.declared.errno.Errno.TheVariants.{EPERM, ENOSPC, EAGAIN}
 use Rattle.cm_base.specs.declared.res.Res.{Res}
 use Rattle.cm_base.specs.declared.res.Res.TheVariants.{Done, Child, Err}
 use Rattle.model_cred.proofs.Lookups.{pid_of_found}
 use Rattle.model_cred.specs.Call.{Call, Fork, CloneUser, Exit, Event, kind_of}
+use Rattle.cm_filter.specs.Filters.{excludes}
 use Rattle.cm_filter.specs.declared.kind.CallKind.{CallKind}
 use Rattle.cm_filter.specs.declared.kind.CallKind.TheVariants as kind
 use Rattle.model_cred.specs.Credential.{Credential}
@@ -15,12 +16,13 @@ use Rattle.model_cred.specs.Space.{Spaces, space_of, level}
 use Rattle.model_cred.specs.World.{World}
 use Rattle.model_rules.specs.Answer.{Answer, done, refused}
 use Rattle.model_rules.specs.Namespaces.{created_by, as_newcomer, is_mapped_in, deepest}
-use Rattle.model_rules.specs.Reply.{reply, spaces_with, spaces_after}
+use Rattle.model_rules.specs.Reply.{reply, spaces_with, spaces_after, filter_after}
 use Rattle.model_run.specs.Later.{is_member, members_after}
 use Rattle.model_run.specs.Outside.{comes_from_outside}
-use Rattle.model_run.specs.Ruling.{Ruling, ruling, own, birth, birth_unless, fork_child, clone_child, state_without}
+use Rattle.model_run.specs.Ruling.{Ruling, ruling, permitted_ruling, excluded_ruling, own, birth, birth_unless, fork_child, clone_child, state_without}
 use Rattle.model_run.specs.Same.{same_res}
 use Rattle.model_run.specs.Step.{Step, Goes, NoSpace, PidInUse, Wrong, outcome_for, names_no_space, is_living_child, told_call, told_rules, told_child}
+use Rattle.model_run.specs.Step.{answers_from_outside}
 use Rattle.model_box.specs.Row.{Part, Row}
 use Rattle.model_box.specs.Files.{FilesFit}
 use Rattle.model_box.specs.Parting.{InCell, cell_of, parting_after, parting_then, LaterBy, Falls, OnlyFalls}
@@ -190,7 +192,7 @@ module _ (w : World) (old : Spaces) (Cell : ℕ → Type 0) (permits : ℕ → C
 
     -- a birth in a new space
     clone_kept : (res : Res) → is_living_child s.processes res ≡ false → (child_pid : ℕ) → IsTrue (permits (cell_of parting pid) kind.CloneUser)
-        → KeptBy CloneUser res (ruling w s p CloneUser child_pid)
+        → KeptBy CloneUser res (permitted_ruling w s p CloneUser child_pid)
     clone_kept res free child_pid allowed =
         choose (λ (a : Answer).
         KeptBy CloneUser res (birth_unless a.res s (clone_child s.spaces p child_pid) (spaces_with a.res s.spaces p.space p.cred)))
@@ -216,26 +218,39 @@ module _ (w : World) (old : Spaces) (Cell : ℕ → Type 0) (permits : ℕ → C
               (maker_still w.files old Cell permits common bounds all Made closed files_fit s.spaces kept.spaces
               (cell_of parting pid) the_caller.cell p.space p.cred the_caller.fits either shallow mapped)
 
-    -- What the rules give is covered.
-    ruled_kept : (call : Call) (res : Res) → is_living_child s.processes res ≡ false → IsTrue (permits (cell_of parting pid) (kind_of call))
-        → names_no_space s.spaces call ≡ false → (child_pid : ℕ) → KeptBy call res (ruling w s p call child_pid)
-    ruled_kept Fork res free allowed named child_pid =
+    -- What the rules give for a call that the caller's filter permits is covered.
+    permitted_kept : (call : Call) (res : Res) → is_living_child s.processes res ≡ false → IsTrue (permits (cell_of parting pid) (kind_of call))
+        → names_no_space s.spaces call ≡ false → (child_pid : ℕ) → KeptBy call res (permitted_ruling w s p call child_pid)
+    permitted_kept Fork res free allowed named child_pid =
         born_kept Fork res free (λ k child. rw child (cell_born parting pid k)) (λ wrong. cc) s.spaces (fork_child p child_pid)
         (nothing_changes w.files old Cell permits common bounds all Made closed files_fit s.spaces kept.spaces) the_caller.fits
-    ruled_kept CloneUser res free allowed named child_pid = clone_kept res free child_pid allowed
-    ruled_kept Exit res free allowed named child_pid = λ told falls. left_kept res free falls
-    ruled_kept call res free allowed named child_pid = λ told falls.
+    permitted_kept CloneUser res free allowed named child_pid = clone_kept res free child_pid allowed
+    permitted_kept Exit res free allowed named child_pid = λ told falls. left_kept res free falls
+    permitted_kept call res free allowed named child_pid = λ told falls.
         changed_kept call res free (λ wrong. cc) (spaces_after s.spaces p.space p.cred call)
-        (record p { space = (reply w.files s.spaces p.space p.cred call).space; cred = (reply w.files s.spaces p.space p.cred call).cred }) refl
+        (record p {
+          space = (reply w.files s.spaces p.space p.cred call).space;
+          cred = (reply w.files s.spaces p.space p.cred call).cred;
+          filter = filter_after p.filter p.cred call;
+        })
+        refl
         (after_call w.files old Cell permits common bounds all Made closed files_fit s.spaces kept.spaces
         (cell_of parting pid) the_caller.cell p.space p.cred the_caller.fits call allowed named) falls
+
+    -- What the rules give is covered: nothing changes where the caller's filter excludes the call.
+    ruled_kept : (call : Call) (res : Res) → is_living_child s.processes res ≡ false → IsTrue (permits (cell_of parting pid) (kind_of call))
+        → names_no_space s.spaces call ≡ false → (child_pid : ℕ) → KeptBy call res (ruling w s p call child_pid)
+    ruled_kept call res free allowed named child_pid =
+        choose (KeptBy call res) (excludes p.filter (kind_of call)) (excluded_ruling s) (permitted_ruling w s p call child_pid)
+        (λ _ told falls. stays_kept call res free (no_end res EPERM told) falls)
+        (λ _. permitted_kept call res free allowed named child_pid)
 
     -- a step of the caller
     told_kept : (call : Call) (res : Res) (s' : State) → IsTrue (permits (cell_of parting pid) (kind_of call))
         → names_no_space s.spaces call ≡ false → is_living_child s.processes res ≡ false
         → Falls may s (record { pid = pid; call = call; res = res }) s'
         → told_call w s p call res ≡ Goes s' → KeptIn s' (members_after members pid call res) (parting_after parting pid call res)
-    told_kept call res s' allowed named free falls step = outside (comes_from_outside call res) refl step where
+    told_kept call res s' allowed named free falls step = outside (answers_from_outside p call res) refl step where
       rules : (b : Bool) → same_res res (ruling w s p call (told_child res)).res ≡ b
           → (if b then Goes (ruling w s p call (told_child res)).state else Wrong (own w s p call).res) ≡ Goes s'
           → KeptIn s' (members_after members pid call res) (parting_after parting pid call res)
@@ -244,12 +259,13 @@ module _ (w : World) (old : Spaces) (Cell : ℕ → Type 0) (permits : ℕ → C
           rw is at (ruled_kept call res free allowed named (told_child res) told (rw (← is) at falls))
       rules false told same = absurd (cc)
 
-      outside : (b : Bool) → comes_from_outside call res ≡ b
+      outside : (b : Bool) → answers_from_outside p call res ≡ b
           → (if b then Goes s else told_rules res (ruling w s p call (told_child res)) (own w s p call)) ≡ Goes s'
           → KeptIn s' (members_after members pid call res) (parting_after parting pid call res)
       outside true out same =
           let is : s ≡ s' = goes_to s s' same in
-          rw is at (stays_kept call res free (outside_ends_none call res out) (rw (← is) at falls))
+          let told = and_parts (not (excludes p.filter (kind_of call))) (comes_from_outside call res) out in
+          rw is at (stays_kept call res free (outside_ends_none call res told.1) (rw (← is) at falls))
       outside false out same = rules (same_res res (ruling w s p call (told_child res)).res) refl same
 
   -- Each step of a member, of a kind that it may call, keeps all members covered.

@@ -1,13 +1,15 @@
 -- The start bounds, the rows by number, and what the rules read.
-use Rattle.std.proofs.Common.{◌≡◌, ℕ, zero, suc, ◌+◌, ◌*◌, ◌/◌, ◌%◌, ◌<◌, Bool, false, ◌||◌, Some, List, length, refl, sym, ◌∙◌, inl, inr, arith}
+use Rattle.std.proofs.Common.{◌≡◌, ℕ, zero, suc, ◌+◌, ◌*◌, ◌/◌, ◌%◌, ◌<◌, Bool, false, ◌||◌, Some, List, length, refl, sym, ◌∙◌, inl, inr, subst, arith}
 use Rattle.std.specs.Prelude.{IsTrue, All}
 use Rattle.std.proofs.lemmas.Bool.{false≢true, ltb-true, lt-ltb}
+use Rattle.cm_filter.specs.Filters.{Filter, excludes}
 use Rattle.cm_filter.specs.declared.kind.CallKind.{CallKind}
 use Rattle.cm_filter.specs.declared.kind.CallKind.TheVariants as kind
 use Rattle.model_cred.specs.Files.{FileTable}
 use Rattle.model_cred.specs.Process.{Process, State, process_at}
 use Rattle.model_cred.specs.Space.{Spaces, space_of, stands}
 use Rattle.model_run.specs.Later.{is_member}
+use Rattle.model_run.proofs.Filters.{member_excludes, filter_found}
 use Rattle.model_box.specs.Row.{Part, MappedUids, MappedGids, Row, Standing, Fresh, row_number, row_at, IsWithin, CredHas}
 use Rattle.model_box.specs.Rule.{Rule, SetUid, SetFsUid, SetGid, SetFsGid, SetGroups, CapSet, SecureBits, Create, Join}
 use Rattle.model_box.specs.Rule.{Maps}
@@ -29,7 +31,7 @@ module _ (s : State) (members : List ℕ) (bounds : Row → Part → ℕ → Typ
 
   -- Bounds that hold the start bounds cover the members at the query, where each process is in a space that stands.
   pub covers_standing : All (λ p. p.space < length s.spaces) s.processes → HoldsStart s members bounds
-      → Covers s s members bounds
+      → Covers s members s members bounds
   covers_standing standing within = record {
     members_in =
         λ pid p row member at is part x has.
@@ -44,6 +46,8 @@ module _ (s : State) (members : List ℕ) (bounds : Row → Part → ℕ → Typ
     parents = λ n late low. absurd (omega arith);
     owners = λ n p row late parent row_p. absurd (let here : n < length s.spaces = has_parent_stands s.spaces n p parent in omega arith);
     filled = λ n a row. absurd (none_later n a row);
+    filters = λ pid p member at kind held.
+        subst (λ (f : Filter). IsTrue (excludes f kind)) (filter_found s pid p at) (member_excludes s members pid kind member held);
   } where
     members_in : (pid : ℕ) (p : Process) (row : Row) → IsTrue (is_member members pid) → process_at s.processes pid ≡ Some p
         → RowOf (length s.spaces) s.spaces p.space row
@@ -60,11 +64,11 @@ module _ (s : State) (members : List ℕ) (bounds : Row → Part → ℕ → Typ
         rw two.0 (record { uids = λ x out. within (Standing a) low MappedUids x (inr out); gids = λ x out. within (Standing a) low MappedGids x (inr out) })
     maps_in n (Fresh a) is = absurd (none_later n a is)
 
-  pub covers_start : StateFits s → HoldsStart s members bounds → Covers s s members bounds
+  pub covers_start : StateFits s → HoldsStart s members bounds → Covers s members s members bounds
   covers_start fits within = covers_standing fits.stands within
 
   -- And the other way: they hold the start bounds.
-  pub holds_start : Covers s s members bounds → HoldsStart s members bounds
+  pub holds_start : Covers s members s members bounds → HoldsStart s members bounds
   holds_start covers (Standing n) standing part x (inl (pid, p, member, at, same, has)) =
       covers.members_in pid p (Standing n) member at (rw same (rows.own n (ltb-true n (length s.spaces) standing))) part x has
   holds_start covers (Standing n) standing part x (inr maps) = by part maps where

@@ -4,6 +4,9 @@ use Rattle.model_box.specs.Laws.{tested, Soundness, Exclusion, CoversAtStart, Mo
 use Rattle.model_box.specs.Laws.{common, ClosedInCommon, StandingApart, ExcludedRulesAddNothing, KeptStatesFit, KeptFilesFit}
 use Rattle.model_box.specs.Laws.{FilesOfWorldsFit, RowsByNumber, RulesByNumber}
 use Rattle.std.proofs.lemmas.Bool.{and_parts, and_from}
+use Rattle.cm_filter.specs.Filters.{permits}
+use Rattle.model_run.specs.Own.{common_filter}
+use Rattle.model_run.proofs.Filters.{own_is_common}
 use Rattle.model_box.specs.Row.{row_number}
 use Rattle.model_box.specs.Rule.{SetUid}
 use Rattle.model_box.proofs.Excludes as ends
@@ -13,13 +16,15 @@ use Rattle.model_box.proofs.Starts as starts
 use Rattle.model_box.proofs.Worlds.{files_fit, run_fits, state_fits}
 
 pub soundness : Soundness
-soundness permitted w s members bounds fits files covers closed events later members_then run =
-    ends.soundness permitted w s members (tested bounds) (ends.fits_starts s fits) files covers closed
+soundness w s members bounds fits files covers closed events later members_then run =
+    ends.soundness (permits (common_filter w s members)) (permits w.filter) w s members (tested bounds) (ends.fits_starts s fits) files covers closed
+    (λ pid member kind may. own_is_common w s members pid kind member may)
     events later members_then run
 
 pub exclusion : Exclusion
-exclusion permitted w s members bounds right fits files standing covers closed apart events later members_then run pid member =
-    ends.exclusion permitted w s members (tested bounds) (ends.fits_starts s fits) files covers closed right standing apart
+exclusion w s members bounds right fits files standing covers closed apart events later members_then run pid member =
+    ends.exclusion (permits (common_filter w s members)) (permits w.filter) w s members (tested bounds) (ends.fits_starts s fits) files covers closed
+    (λ pid member kind may. own_is_common w s members pid kind member may) right standing apart
     events later members_then run pid member
 
 pub covers_at_start : CoversAtStart

@@ -216,8 +216,8 @@ plain_stays_plain w files events later members run pid member =
     (λ id other. never (Uid id) tt (no_uid id other), λ capability. never (Cap capability 0) refl (no_cap capability)) where
       never : (right : Right) → IsOverStanding first_spaces right → (Meets first_spaces plain_bounds right → ⊥) → process_holds later pid right ≡ false
       never right standing apart =
-          exclusion all_permitted w plain_state (100 ∷ []) plain_bounds (fits_starts plain_state plain_fits) files
-          (covers_start plain_state (100 ∷ []) plain_bounds plain_fits start_within) (plain_closed w.files)
+          exclusion all_permitted all_permitted w plain_state (100 ∷ []) plain_bounds (fits_starts plain_state plain_fits) files
+          (covers_start plain_state (100 ∷ []) plain_bounds plain_fits start_within) (plain_closed w.files) (λ pid member kind may. refl)
           right standing apart events later members run pid member
 
       no_uid : (id : ℕ) → (id ≡ 1000 → ⊥) → Meets first_spaces plain_bounds (Uid id) → ⊥

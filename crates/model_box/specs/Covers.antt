@@ -1,10 +1,13 @@
 -- Bounds that cover the members of a family in a state.
 use Rattle.std.specs.Prelude.{◌≡◌, ℕ, ◌<◌, ◌≤◌, true, IsTrue, length, List, Some, All}
+use Rattle.cm_filter.specs.Filters.{Filter, excludes}
+use Rattle.cm_filter.specs.declared.kind.CallKind.{CallKind}
 use Rattle.model_cred.specs.Credential.{Included}
 use Rattle.model_cred.specs.IdMap.{Extent, extents_of, is_outside}
 use Rattle.model_cred.specs.Process.{Process, State, process_at}
 use Rattle.model_cred.specs.Space.{Space, Spaces, IsTree, space_of}
 use Rattle.model_run.specs.Later.{is_member}
+use Rattle.model_run.specs.Own.{shared_filter}
 use Rattle.model_box.specs.Row.{Part, EffectiveUids, MappedUids, MappedGids, Row, Standing, Fresh, CredHas}
 use Rattle.model_box.specs.Spread.{Brings}
 
@@ -64,14 +67,21 @@ FreshFilled old new bounds =
     (n a : ℕ) → RowOf (length old) new n (Fresh a) → (part : Part) (x : ℕ) → Brings (bounds (Standing a)) part x
     → bounds (Fresh a) part x
 
--- The bounds cover the members in the second state, the first being that of the query.
-pub record Covers (old new : State) (members : List ℕ) (bounds : Row → Part → ℕ → Type 0) : Type 0 where
+-- Each member has a filter that excludes all that this one does.
+abbrev pub FiltersExclude : Filter → State → List ℕ → Type 0
+FiltersExclude excluded s members =
+    (pid : ℕ) (p : Process) → IsTrue (is_member members pid) → process_at s.processes pid ≡ Some p
+    → (kind : CallKind) → IsTrue (excludes excluded kind) → IsTrue (excludes p.filter kind)
+
+-- The bounds cover the members in the second state, the first state and the first members being those of the query.
+pub record Covers (old : State) (members_old : List ℕ) (new : State) (members : List ℕ) (bounds : Row → Part → ℕ → Type 0) : Type 0 where
   pub members_in : MembersIn (length old.spaces) new members bounds
   pub spaces_stay : SpacesStay old.spaces new.spaces
   pub maps_in : MapsAreIn old.spaces new.spaces bounds
   pub parents : ParentsEarlier old.spaces new.spaces
   pub owners : OwnersIn old.spaces new.spaces bounds
   pub filled : FreshFilled old.spaces new.spaces bounds
+  pub filters : FiltersExclude (shared_filter old members_old) new members
 
 -- What the laws ask of the state of the query: the spaces form a tree, each process is in one that stands, and the sets
 -- of each credential are within one another.

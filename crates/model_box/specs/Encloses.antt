@@ -11,4 +11,4 @@ use Rattle.model_box.specs.Covers.{Covers}
 pub record Encloses (permitted : CallKind → Bool) (files : FileTable) (s : State) (members : List ℕ)
     (bounds : Row → Part → ℕ → Type 0) : Type 0 where
   pub closed : Closed permitted files s.spaces bounds
-  pub covers : Covers s s members bounds
+  pub covers : Covers s members s members bounds

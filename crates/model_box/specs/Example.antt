@@ -3,6 +3,7 @@ use Rattle.std.specs.Prelude.{◌≡◌, ℕ, ◌<◌, Bool, true, false, IsTrue
 use Rattle.cm_base.specs.CapSet.{holds, full, none}
 use Rattle.cm_base.specs.Limits.{id_count}
 use Rattle.model_cred.specs.Call.{Event}
+use Rattle.cm_filter.specs.Filters.{no_filter}
 use Rattle.cm_filter.specs.declared.kind.CallKind.{CallKind}
 use Rattle.model_cred.specs.Credential.{Credential, all_four}
 use Rattle.model_cred.specs.Process.{Process, State}
@@ -32,7 +33,7 @@ plain_cred = record {
 
 -- the process, with pid 100
 abbrev pub plain_process : Process
-plain_process = record { pid = 100; forebear = None; space = 0; cred = plain_cred }
+plain_process = record { pid = 100; forebear = None; space = 0; cred = plain_cred; filter = no_filter }
 
 -- the state in which it is alone
 abbrev pub plain_state : State

@@ -2,6 +2,7 @@
 -- all bounds.
 use Rattle.std.specs.Prelude.{◌≡◌, ◌↔◌, ◌⊎◌, ℕ, ◌<◌, ◌&&◌, Bool, false, IsTrue, All, List, length, slice_get, Some}
 use Rattle.model_cred.specs.Call.{Event}
+use Rattle.cm_filter.specs.Filters.{permits}
 use Rattle.cm_filter.specs.declared.kind.CallKind.{CallKind}
 use Rattle.cm_filter.specs.declared.kind.CallKind.TheVariants as kind
 use Rattle.model_cred.specs.Files.{FileTable, KeepsFiles}
@@ -10,7 +11,8 @@ use Rattle.model_cred.specs.Right.{Right}
 use Rattle.model_cred.specs.Space.{Spaces}
 use Rattle.model_cred.specs.World.{World, KeepsWorld}
 use Rattle.model_run.specs.Holds.{process_holds}
-use Rattle.model_run.specs.Later.{Later, is_member}
+use Rattle.model_run.specs.Later.{LaterRun, is_member}
+use Rattle.model_run.specs.Own.{common_filter}
 use Rattle.model_run.specs.Step.{Run}
 use Rattle.model_box.specs.Row.{Part, Row, Standing, row_number, row_at, IsWithin}
 use Rattle.model_box.specs.Rule.{Rule, SetUid, SetFsUid, SetGid, SetFsGid, SetGroups, CapSet, SecureBits, ExecUid}
@@ -25,31 +27,32 @@ use Rattle.model_box.specs.Start.{HoldsStart}
 abbrev pub tested : (ℕ → Part → ℕ → Bool) → Row → Part → ℕ → Type 0
 tested bounds row part x = IsTrue (bounds (row_number row) part x)
 
--- Soundness: bounds that cover the members at the query, and are closed, cover them after every later run, of any length,
--- with births, exits, created spaces, joins and written maps.
+-- Soundness: bounds that cover the members at the query, and are closed under the filter that is common to the world
+-- and all members, cover them after every later run, of any length, with births, exits, created spaces, joins, written
+-- maps and installed filters.
 abbrev pub Soundness : Type 0
 Soundness =
-    (permitted : CallKind → Bool) (w : World) (s : State) (members : List ℕ) (bounds : ℕ → Part → ℕ → Bool)
+    (w : World) (s : State) (members : List ℕ) (bounds : ℕ → Part → ℕ → Bool)
     → StateFits s → FilesFit w.files s.spaces
-    → Covers s s members (tested bounds) → Closed permitted w.files s.spaces (tested bounds)
-    → (events : List Event) (later : State) (members_then : List ℕ) → Later permitted w s members events later members_then
-    → Covers s later members_then (tested bounds)
+    → Covers s members s members (tested bounds) → Closed (permits (common_filter w s members)) w.files s.spaces (tested bounds)
+    → (events : List Event) (later : State) (members_then : List ℕ) → LaterRun w s members events later members_then
+    → Covers s members later members_then (tested bounds)
 
 -- Exclusion: where they don't meet a right besides, no member holds it after any such run, the present moment included.
 abbrev pub Exclusion : Type 0
 Exclusion =
-    (permitted : CallKind → Bool) (w : World) (s : State) (members : List ℕ) (bounds : ℕ → Part → ℕ → Bool) (right : Right)
+    (w : World) (s : State) (members : List ℕ) (bounds : ℕ → Part → ℕ → Bool) (right : Right)
     → StateFits s → FilesFit w.files s.spaces → IsOverStanding s.spaces right
-    → Covers s s members (tested bounds) → Closed permitted w.files s.spaces (tested bounds)
+    → Covers s members s members (tested bounds) → Closed (permits (common_filter w s members)) w.files s.spaces (tested bounds)
     → (Meets s.spaces (tested bounds) right → ⊥)
-    → (events : List Event) (later : State) (members_then : List ℕ) → Later permitted w s members events later members_then
+    → (events : List Event) (later : State) (members_then : List ℕ) → LaterRun w s members events later members_then
     → (pid : ℕ) → IsTrue (is_member members_then pid) → process_holds later pid right ≡ false
 
 -- Bounds cover the members at the query exactly where they hold the start bounds.
 abbrev pub CoversAtStart : Type 0
 CoversAtStart =
     (s : State) (members : List ℕ) (bounds : ℕ → Part → ℕ → Bool) → StateFits s
-    → HoldsStart s members (tested bounds) ↔ Covers s s members (tested bounds)
+    → HoldsStart s members (tested bounds) ↔ Covers s members s members (tested bounds)
 
 -- Each rule is monotone: to larger bounds it adds at least as much.
 abbrev pub Monotone : Type 0

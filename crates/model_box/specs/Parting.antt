@@ -42,7 +42,7 @@ parting_then parting [] = parting
 parting_then parting (e ∷ es) = parting_then (parting_after parting e.pid e.call e.res) es
 
 -- A later run: each event is a step of one who is a member at that point, of a kind that this member may call then.
--- (Under a filter that binds all alike it is the same as a later run under that filter.)
+-- (A later run under a filter is one in which each member may call what that filter and its own at that point permit.)
 abbrev pub LaterBy : (State → ℕ → CallKind → Bool) → World → State → List ℕ → List Event → State → List ℕ → Type 0
 LaterBy may w s members [] s' members' = (s' ≡ s) × (members' ≡ members)
 LaterBy may w s members (e ∷ es) s' members' =

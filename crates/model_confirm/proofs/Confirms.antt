@@ -16,6 +16,7 @@ use Rattle.model_cred.specs.Process.{State}
 use Rattle.model_cred.specs.Right.{Right}
 use Rattle.model_cred.specs.World.{World}
 use Rattle.model_run.specs.Later.{is_member, members_after}
+use Rattle.model_run.specs.Own.{may_call}
 use Rattle.model_run.specs.Step.{Outcome, Goes, NoProcess, NoSpace, PidInUse, Wrong, Step, outcome}
 use Rattle.model_run.specs.Within.{exceeded, IsWithin}
 use Rattle.model_text.specs.Reading.{Placed, Fault, Limit, End, AtEnd, Stops, Reading, reads_on, ends_at}
@@ -47,7 +48,7 @@ cause_of_ending w s members right (Stops (Limit l)) = by_line (through_end w s m
 
 -- One event is taken, and then there is the rest.
 module _ (w : World) (s mid : State) (members : List ℕ) (right : Right) (e : Placed) (rest : Reading) (goes : Step w s e.event mid)
-    (within : IsWithin mid) (member : is_member members e.event.pid ≡ true) (permitted : permits w.filter (kind_of e.event.call) ≡ true) where
+    (within : IsWithin mid) (member : is_member members e.event.pid ≡ true) (permitted : may_call (permits w.filter) s e.event.pid (kind_of e.event.call) ≡ true) where
   abbrev members' : List ℕ
   members' = members_after members e.event.pid e.event.call e.event.res
 
@@ -117,7 +118,7 @@ module _ (w : World) (s : State) (members : List ℕ) (right : Right) (e : Place
   -- a step within the limits
   cause_of_step : (mid : State) → Step w s e.event mid → IsWithin mid → (c : Confirmed)
       → CauseOf w mid (members_after members e.event.pid e.event.call e.event.res) right rest c
-      → (member permitted : Bool) → is_member members e.event.pid ≡ member → permits w.filter (kind_of e.event.call) ≡ permitted
+      → (member permitted : Bool) → is_member members e.event.pid ≡ member → may_call (permits w.filter) s e.event.pid (kind_of e.event.call) ≡ permitted
       → CauseOf w s members right (reads_on e rest) (if member && permitted then c else RefusesLine e.line)
   cause_of_step mid goes within c cause true true is may = cause_on w s mid members right e rest goes within is may c cause
   cause_of_step mid goes within c cause true false is may = refused_first (only mid goes within) (excluded may)
@@ -127,11 +128,11 @@ module _ (w : World) (s : State) (members : List ℕ) (right : Right) (e : Place
 module _ (w : World) (s : State) (members : List ℕ) (right : Right) (e : Placed) (rest : Reading) (next : State → Confirmed)
     (causes : (mid : State) → CauseOf w mid (members_after members e.event.pid e.event.call e.event.res) right rest (next mid)) where
   by_limit : (mid : State) → Step w s e.event mid → (l : Option Limited) → exceeded mid ≡ l
-      → CauseOf w s members right (reads_on e rest) (unless_past l (if is_for_members w members e.event then next mid else RefusesLine e.line))
+      → CauseOf w s members right (reads_on e rest) (unless_past l (if is_for_members w s members e.event then next mid else RefusesLine e.line))
   by_limit mid goes (Some l) over = past_first w s members right e rest mid l goes over
   by_limit mid goes None within =
       cause_of_step w s members right e rest mid goes within (next mid) (causes mid)
-      (is_member members e.event.pid) (permits w.filter (kind_of e.event.call)) refl refl
+      (is_member members e.event.pid) (may_call (permits w.filter) s e.event.pid (kind_of e.event.call)) refl refl
 
   refused : (become : Outcome) → outcome w s e.event ≡ become → ((after : State) → become ≡ Goes after → ⊥)
       → IsLineRefused w s members (reads_on e rest) e.line
@@ -139,14 +140,14 @@ module _ (w : World) (s : State) (members : List ℕ) (right : Right) (e : Place
       let no : (after : State) → Step w s e.event after → ⊥ = λ after goes. none after (sym is ∙ goes) in
       refused_first w s members right e rest (λ after goes. absurd (no after goes)) (no_step no)
 
-  by_become : (become : Outcome) → outcome w s e.event ≡ become → CauseOf w s members right (reads_on e rest) (by_outcome w members e next become)
+  by_become : (become : Outcome) → outcome w s e.event ≡ become → CauseOf w s members right (reads_on e rest) (by_outcome w s members e next become)
   by_become (Goes mid) is = by_limit mid is (exceeded mid) refl
   by_become NoProcess is = refused NoProcess is (λ after no. cc)
   by_become NoSpace is = refused NoSpace is (λ after no. cc)
   by_become PidInUse is = refused PidInUse is (λ after no. cc)
   by_become (Wrong res) is = refused (Wrong res) is (λ after no. cc)
 
-  cause_first : CauseOf w s members right (reads_on e rest) (by_outcome w members e next (outcome w s e.event))
+  cause_first : CauseOf w s members right (reads_on e rest) (by_outcome w s members e next (outcome w s e.event))
   cause_first = by_become (outcome w s e.event) refl
 
 -- What a run comes to has its cause.
@@ -175,7 +176,7 @@ module _ (w : World) (s : State) (members : List ℕ) (right : Right) (reading :
       events_confirm w s' (members_after is.members_then is.event.event.pid is.event.event.call is.event.event.res) right is.later reading.ending
 
   over_first : (is : GoesUpTo w s members reading)
-      → confirm_of w s members right reading ≡ by_outcome w is.members_then is.event (next_of is) (outcome w is.last is.event.event)
+      → confirm_of w s members right reading ≡ by_outcome w is.last is.members_then is.event (next_of is) (outcome w is.last is.event.event)
   over_first is =
       ap (λ (es : List Placed). events_confirm w s members right es reading.ending) is.parted
       ∙ run_passes w right is.before (is.event ∷ is.later) reading.ending s members is.last is.members_then is.run.later is.run.within
@@ -183,14 +184,14 @@ module _ (w : World) (s : State) (members : List ℕ) (right : Right) (reading :
   line_is : (number : ℕ) → IsLineRefused w s members reading number → confirm_of w s members right reading ≡ RefusesLine number
   line_is number (by_fault why is) = over_all (Stops (Fault number why)) is
   line_is number (by_event is) =
-      over_first is.up_to ∙ refuses w is.up_to.members_then is.up_to.event (next_of is.up_to) is.up_to.last is.within is.refused
+      over_first is.up_to ∙ refuses w is.up_to.last is.up_to.members_then is.up_to.event (next_of is.up_to) is.within is.refused
       ∙ ap (λ (n : ℕ). RefusesLine n) is.line
 
   past_is : (l : Limited) → IsPastLimit w s members reading l → confirm_of w s members right reading ≡ PastLimit l
   past_is l (by_line is) = over_all (Stops (Limit l)) is
   past_is l (by_step is) =
       over_first is.up_to
-      ∙ past w is.up_to.members_then is.up_to.event (next_of is.up_to) (outcome w is.up_to.last is.up_to.event.event) is.after l is.step is.over
+      ∙ past w is.up_to.last is.up_to.members_then is.up_to.event (next_of is.up_to) (outcome w is.up_to.last is.up_to.event.event) is.after l is.step is.over
 
   pub answer_of : (c : Confirmed) → CauseOf w s members right reading c → confirm_of w s members right reading ≡ c
   answer_of (Confirms pid) is =

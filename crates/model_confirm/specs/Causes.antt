@@ -9,6 +9,7 @@ use Rattle.model_cred.specs.Right.{Right}
 use Rattle.model_cred.specs.World.{World}
 use Rattle.model_plans.specs.Firsts.{IsLeastHolder, NoneHolds}
 use Rattle.model_run.specs.Later.{is_member, LaterRun}
+use Rattle.model_run.specs.Own.{may_call}
 use Rattle.model_run.specs.Step.{Step}
 use Rattle.model_run.specs.Within.{exceeded, IsWithin, RunWithin}
 use Rattle.model_text.specs.Reading.{Placed, Stop, Fault, Limit, End, AtEnd, Stops, Reading, events_of}
@@ -47,10 +48,11 @@ pub record EndsWithout (w : World) (s : State) (members : List ℕ) (right : Rig
   pub through : GoesThrough w s members reading AtEnd
   pub none : NoneHolds through.last through.members_then right
 
--- The event is no member's, its call is of a kind that the world's filter excludes, or it is no step.
+-- The event is no member's, its call is of a kind that the world's filter or the caller's own excludes, or it is no
+-- step.
 pub data IsRefused (w : World) (s : State) (members : List ℕ) (e : Event) : Type 0 where
   no_member : is_member members e.pid ≡ false → IsRefused w s members e
-  excluded : permits w.filter (kind_of e.call) ≡ false → IsRefused w s members e
+  excluded : may_call (permits w.filter) s e.pid (kind_of e.call) ≡ false → IsRefused w s members e
   no_step : ((after : State) → Step w s e after → ⊥) → IsRefused w s members e
 
 -- An event of the run is refused, and has this line; if it is a step, it isn't one past a limit.

@@ -9,6 +9,7 @@ use Rattle.model_cred.specs.Right.{Right}
 use Rattle.model_cred.specs.World.{World}
 use Rattle.model_run.specs.Holds.{process_holds}
 use Rattle.model_run.specs.Later.{is_member, members_after}
+use Rattle.model_run.specs.Own.{may_call}
 use Rattle.model_run.specs.Step.{Outcome, Goes, outcome}
 use Rattle.model_run.specs.Within.{exceeded}
 use Rattle.model_text.specs.Reading.{Placed, Stop, Fault, Limit, End, AtEnd, Stops, Reading}
@@ -53,27 +54,28 @@ by_ending s members right AtEnd = by_holder (least_holder s members right)
 by_ending s members right (Stops stop) = by_stop stop
 
 -- ---- its events
--- the event is a member's, and its call of a kind that the world's filter permits
-abbrev pub is_for_members : World → List ℕ → Event → Bool
-is_for_members w members e = is_member members e.pid && permits w.filter (kind_of e.call)
+-- the event is a member's, and its call of a kind that the world's filter permits, and the member's own in that state
+abbrev pub is_for_members : World → State → List ℕ → Event → Bool
+is_for_members w s members e = is_member members e.pid && may_call (permits w.filter) s e.pid (kind_of e.call)
 
 -- the rest, unless a limit is exceeded
 abbrev pub unless_past : Option Limited → Confirmed → Confirmed
 unless_past None rest = rest
 unless_past (Some l) rest = PastLimit l
 
--- What an event comes to, by what becomes of it. First come the limits: a step after which the state exceeds one, whoever
--- makes it. Then an event that isn't a member's, whose call the filter excludes, or that is no step, is refused at its line.
-abbrev pub by_outcome : World → List ℕ → Placed → (State → Confirmed) → Outcome → Confirmed
-by_outcome w members e rest (Goes s) =
-    unless_past (exceeded s) (if is_for_members w members e.event then rest s else RefusesLine e.line)
-by_outcome w members e rest become = RefusesLine e.line
+-- What an event comes to in a state, by what becomes of it. First come the limits: a step after which the state exceeds
+-- one, whoever makes it. Then an event that isn't a member's, whose call a filter excludes, or that is no step, is
+-- refused at its line.
+abbrev pub by_outcome : World → State → List ℕ → Placed → (State → Confirmed) → Outcome → Confirmed
+by_outcome w s members e rest (Goes s') =
+    unless_past (exceeded s') (if is_for_members w s members e.event then rest s' else RefusesLine e.line)
+by_outcome w s members e rest become = RefusesLine e.line
 
 -- what events come to, after which the reading ends so, from a state on, by these members
 abbrev pub events_confirm : World → State → List ℕ → Right → List Placed → End → Confirmed
 events_confirm w s members right [] ending = by_ending s members right ending
 events_confirm w s members right (e ∷ events) ending =
-    by_outcome w members e
+    by_outcome w s members e
     (λ s'. events_confirm w s' (members_after members e.event.pid e.event.call e.event.res) right events ending)
     (outcome w s e.event)
 

@@ -54,13 +54,14 @@ pub record IsLike (p q : Process) : Type 0 where
   pub pid : p.pid ≡ q.pid
   pub space : p.space ≡ q.space
   pub cred : p.cred ≡ q.cred
+  pub filter : p.filter ≡ q.filter
 
 -- an exit leaves of another process all but its forebear
 pub like_after_exit : (gone p : Process) → IsLike p (after_exit gone p)
 like_after_exit gone p =
     elim (is_the p.forebear gone.pid) as (λ (b : Bool). IsLike p (cond b (record p { forebear = gone.forebear }) p)) [
-      | true ↦ record { pid = refl; space = refl; cred = refl }
-      | false ↦ record { pid = refl; space = refl; cred = refl }
+      | true ↦ record { pid = refl; space = refl; cred = refl; filter = refl }
+      | false ↦ record { pid = refl; space = refl; cred = refl; filter = refl }
     ]
 
 -- who exited isn't found

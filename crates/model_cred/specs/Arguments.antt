@@ -2,8 +2,9 @@
 use Rattle.std.specs.Prelude.{ℕ, Bool, List, [], ◌∷◌, Option, Some, None, option_and_then, option_map, flat_map, map}
 use Rattle.cm_base.specs.declared.res.FileRef.{FileRef}
 use Rattle.cm_filter.specs.declared.kind.CallKind.{CallKind}
-use Rattle.cm_filter.specs.Shapes.{Form, AnId, ANumber, ACap, ASet, ASpace, AWord, AFile}
-use Rattle.cm_filter.specs.Shapes.{Pattern, Just, Ids, Triples, pattern_of}
+use Rattle.cm_filter.specs.Filters.{filter_excluding, excluded_kinds}
+use Rattle.cm_filter.specs.Shapes.{Form, AnId, ANumber, ACap, ASet, ASpace, AWord, AFile, AKind}
+use Rattle.cm_filter.specs.Shapes.{Pattern, Just, Ids, Triples, Kinds, pattern_of}
 use Rattle.model_cred.specs.Call.{Call, kind_of}
 use Rattle.model_cred.specs.Carried.{Value, Values, Carries}
 use Rattle.model_cred.specs.IdMap.{Extent}
@@ -17,6 +18,7 @@ pub data Argument : Type 0 where
   Space : ℕ → Argument
   Word : Bool → Argument
   File : FileRef → Argument
+  Kind : CallKind → Argument
 
 -- ---- the call of its arguments
 -- the extents of triples of numbers: inside, outside, length
@@ -31,6 +33,12 @@ ids_in [] = Some []
 ids_in (Id n ∷ more) = option_map (λ ids. n ∷ ids) (ids_in more)
 ids_in _ = None
 
+-- the kinds of a list
+abbrev pub kinds_in : List Argument → Option (List CallKind)
+kinds_in [] = Some []
+kinds_in (Kind k ∷ more) = option_map (λ kinds. k ∷ kinds) (kinds_in more)
+kinds_in _ = None
+
 -- what an argument is, where it is of the form
 abbrev pub value_in : (form : Form) → Argument → Option (Value form)
 value_in AnId (Id n) = Some n
@@ -40,6 +48,7 @@ value_in ASet (Set n) = Some n
 value_in ASpace (Space n) = Some n
 value_in AWord (Word deny) = Some deny
 value_in AFile (File file) = Some file
+value_in AKind (Kind kind) = Some kind
 value_in _ _ = None
 
 -- what arguments are, where they are of these forms
@@ -55,6 +64,7 @@ carried_in (Just forms) arguments = values_in forms arguments
 carried_in Ids arguments = ids_in arguments
 carried_in Triples (Space space ∷ more) = option_map (λ list. (space, list)) (extents_in more)
 carried_in Triples _ = None
+carried_in Kinds arguments = option_map filter_excluding (kinds_in arguments)
 
 -- the call of that kind with these arguments, where they are of its pattern
 abbrev pub call_with : CallKind → List Argument → Option Call
@@ -74,6 +84,7 @@ as_argument ASet n = Set n
 as_argument ASpace n = Space n
 as_argument AWord deny = Word deny
 as_argument AFile file = File file
+as_argument AKind kind = Kind kind
 
 -- values of these forms as arguments
 abbrev pub as_arguments : (forms : List Form) → Values forms → List Argument
@@ -85,6 +96,7 @@ abbrev pub carried_as : (pattern : Pattern) → Carries pattern → List Argumen
 carried_as (Just forms) values = as_arguments forms values
 carried_as Ids ids = map Id ids
 carried_as Triples carried = Space carried.0 ∷ flat_map triple_of carried.1
+carried_as Kinds more = map Kind (excluded_kinds more)
 
 -- the arguments of a call, in their order
 abbrev pub arguments_of : Call → List Argument

@@ -2,6 +2,7 @@
 use Rattle.std.specs.Prelude.{ℕ, Bool, List}
 use Rattle.cm_base.specs.declared.res.Res.{Res}
 use Rattle.cm_base.specs.declared.res.FileRef.{FileRef}
+use Rattle.cm_filter.specs.Filters.{Filter}
 use Rattle.cm_filter.specs.declared.kind.CallKind.{CallKind}
 use Rattle.cm_filter.specs.declared.kind.CallKind.TheVariants as kind
 use Rattle.cm_filter.specs.Shapes.{pattern_of}
@@ -16,9 +17,10 @@ Call = (k : CallKind) × Carries (pattern_of k)
 abbrev pub kind_of : Call → CallKind
 kind_of call = call.0
 
--- The 26 calls with their arguments, ids as the caller's space sees them, or -1. capset has effective,
+-- The 27 calls with their arguments, ids as the caller's space sees them, or -1. capset has effective,
 -- permitted and inheritable, in this order. A space is given by its number. The outside ids of a map that is written are
--- those of the target's parent. The word of WriteSetgroups is "deny" where it is true, else "allow".
+-- those of the target's parent. The word of WriteSetgroups is "deny" where it is true, else "allow". Install has
+-- the filter that is installed.
 pattern abbrev pub SetUid : ℕ → Call
 SetUid id = (kind.SetUid, (id, tt))
 
@@ -96,6 +98,9 @@ Exec file = (kind.Exec, (file, tt))
 
 pattern abbrev pub Exit : Call
 Exit = (kind.Exit, tt)
+
+pattern abbrev pub Install : Filter → Call
+Install filter = (kind.Install, filter)
 
 -- One completed call of one process, with its result.
 pub record Event : Type 0 where

@@ -2,17 +2,19 @@
 use Rattle.std.specs.Prelude.{ℕ, ◌==◌, ◌<◌, ◌&&◌, Bool, not, nat_lt, nat_le, is_some, length, List, [], ◌∷◌, map}
 use Rattle.std.specs.Prelude.{filter, Option, Some, None, if◌then◌else◌, All}
 use Rattle.cm_base.specs.Limits.{last_pid}
+use Rattle.cm_filter.specs.Filters.{Filter}
 use Rattle.model_cred.specs.Credential.{Credential, Keeps}
 use Rattle.model_cred.specs.IdMap.{is_the}
 use Rattle.model_cred.specs.Space.{Spaces, IsTree, KeepsSpace}
 
 -- A process: its pid, its forebear (the nearest living ancestor by birth, where there is one; choice), the number of
--- the space that it is in, and its credential.
+-- the space that it is in, its credential, and its filter: what the filters that it carries exclude (seccomp(2)).
 pub record Process : Type 0 where
   pub pid : ℕ
   pub forebear : Option ℕ
   pub space : ℕ
   pub cred : Credential
+  pub filter : Filter
 
 -- The state: the live processes by ascending pid, and the spaces.
 pub record State : Type 0 where

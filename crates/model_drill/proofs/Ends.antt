@@ -46,6 +46,7 @@ ready_keeps s ready =
     record {
       keeps = ready.keeps;
       pids = ready.pids;
+      unfiltered = ready.unfiltered;
       some_live = some;
       few_live = live;
       few_spaces = ready.few_spaces;
@@ -60,6 +61,7 @@ pub ready_of : (s : State) → IsDrillState s → IsReady s
 ready_of s is = record {
   keeps = is.keeps;
   pids = is.pids;
+  unfiltered = is.unfiltered;
   some_live = is.some_live;
   few_live = is.few_live;
   few_spaces = is.few_spaces;

@@ -19,7 +19,9 @@ use Rattle.model_plans.proofs.Others.{put_length}
 use Rattle.model_rules.specs.Maps.{MapFile, Written, UidMap, GidMap, write_done, write_map, write_refused, write_setgroups, write_stored}
 use Rattle.model_rules.specs.Namespaces.{clone_user, unshare}
 use Rattle.model_rules.specs.Reply.{spaces_after, spaces_with}
-use Rattle.model_run.specs.Ruling.{Ruling, birth, birth_unless, clone_child, fork_child, reply_to, ruling, spaces_left, state_left}
+use Rattle.model_run.specs.Ruling.{Ruling, birth, birth_unless, clone_child, fork_child, reply_to, ruling, permitted_ruling, spaces_left, filter_left}
+use Rattle.model_run.specs.Ruling.{state_left}
+use Rattle.model_laws.proofs.StepParts.{by_filter}
 
 -- ---- processes
 
@@ -163,7 +165,7 @@ after_count spaces at c _ = omega arith
 left_sizes : (w : World) (s : State) (p : Process) (call : Call) → births call ≡ 0 → exits call ≡ 0
     → Sizes s call (state_left s p call (reply_to w s p call))
 left_sizes w s p call unborn none =
-    let same = put_length (record p { space = (reply_to w s p call).space; cred = (reply_to w s p call).cred }) s.processes in
+    let same = put_length (record p { space = (reply_to w s p call).space; cred = (reply_to w s p call).cred; filter = filter_left p call }) s.processes in
     record {
       more = omega (arith, same);
       fewer = omega (arith, same);
@@ -178,11 +180,17 @@ without_sizes s p ascends =
     let high : length s.processes ≤ length left + 1 = others_count 0 p.pid s.processes (ascends_forth s.processes ascends) in
     record { more = omega (arith, same, low); fewer = omega (arith, same, high); spaces = omega arith }
 
-pub ruling_sizes : (w : World) (s : State) (p : Process) (call : Call) (n : ℕ) → Ascends s.processes
-    → Sizes s call (ruling w s p call n).state
-ruling_sizes w s p Fork n ascends = birth_sizes s (fork_child p n) Fork s.spaces refl refl (omega arith)
-ruling_sizes w s p CloneUser n ascends =
+permitted_sizes : (w : World) (s : State) (p : Process) (call : Call) (n : ℕ) → Ascends s.processes
+    → Sizes s call (permitted_ruling w s p call n).state
+permitted_sizes w s p Fork n ascends = birth_sizes s (fork_child p n) Fork s.spaces refl refl (omega arith)
+permitted_sizes w s p CloneUser n ascends =
     unless_sizes (clone_user s.spaces p.space p.cred) s (clone_child s.spaces p n) CloneUser (spaces_left s p CloneUser) refl refl
     (after_count s.spaces p.space p.cred CloneUser)
-ruling_sizes w s p Exit n ascends = without_sizes s p ascends
-ruling_sizes w s p call n ascends = left_sizes w s p call refl refl
+permitted_sizes w s p Exit n ascends = without_sizes s p ascends
+permitted_sizes w s p call n ascends = left_sizes w s p call refl refl
+
+pub ruling_sizes : (w : World) (s : State) (p : Process) (call : Call) (n : ℕ) → Ascends s.processes
+    → Sizes s call (ruling w s p call n).state
+ruling_sizes w s p call n ascends =
+    by_filter (λ r. Sizes s call r.state) w s p call n
+    (record { more = omega arith; fewer = omega arith; spaces = omega arith }) (permitted_sizes w s p call n ascends)

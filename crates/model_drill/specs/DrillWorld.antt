@@ -26,7 +26,7 @@ root_credential = record {
 
 -- the one process that is declared
 abbrev pub first_process : Process
-first_process = record { pid = 1; forebear = None; space = 0; cred = root_credential }
+first_process = record { pid = 1; forebear = None; space = 0; cred = root_credential; filter = no_filter }
 
 -- the one file that is declared: set-user-ID, its owner root
 abbrev pub su_row : FileRow

@@ -2,6 +2,7 @@
 use Rattle.std.specs.Prelude.{◌≡◌, ℕ, ◌≤◌, All, IsTrue, length}
 use Rattle.cm_base.specs.Limited.{limit_number}
 use Rattle.cm_base.specs.declared.limited.Limited.TheVariants as limit
+use Rattle.cm_filter.specs.Filters.{no_filter}
 use Rattle.model_cred.specs.Process.{State, KeepsState, is_alive, is_pid}
 use Rattle.model_drill.specs.DrillWorld.{drill_world, drill_world_text}
 use Rattle.model_drill.specs.Drill.{drill_events, drill_start, drill_state, drill_text, first_live, stand_after}
@@ -24,12 +25,13 @@ DrillCounts = (n : ℕ) → length (drill_events n) ≡ n
 unfoldable pub DrillIsRun : Type 0
 DrillIsRun = (n : ℕ) → Run drill_world drill_world.start (drill_events n) (drill_state n)
 
--- What each state of the drill keeps, from the first to the last: what a state keeps, and each pid is one; some process
--- lives, and the one that is asked about is the least of them; no more live, and no more spaces stand, than the table
--- allows, which is within the limits.
+-- What each state of the drill keeps, from the first to the last: what a state keeps; each pid is one, and no process
+-- has installed a filter; some process lives, and the one that is asked about is the least of them; no more live, and
+-- no more spaces stand, than the table allows, which is within the limits.
 pub record IsDrillState (s : State) : Type 0 where
   pub keeps : KeepsState s
   pub pids : All (λ p. IsTrue (is_pid p.pid)) s.processes
+  pub unfiltered : All (λ p. p.filter ≡ no_filter) s.processes
   pub some_live : 1 ≤ length s.processes
   pub few_live : length s.processes ≤ most
   pub few_spaces : length s.spaces ≤ most

@@ -31,6 +31,7 @@ use Rattle.model_rules.specs.Exec.{permitted_after, ambient_after, sets_for, is_
 use Rattle.model_rules.specs.Exec.{setgid_counts, run_file, interpreter_of}
 use Rattle.model_rules.specs.FileView.{FileView, view, view_in, view_if, view_on, plain_view, id_on, mount_uids, mount_gids}
 use Rattle.model_rules.specs.Fixups.{fixed_up, fs_fixed_up, following_effective, following_fs, after_losing_root, without_root}
+use Rattle.model_rules.specs.Install.{install}
 use Rattle.model_rules.specs.Namespaces.{as_newcomer, unshare, join}
 use Rattle.model_rules.specs.Securebits.{has_flag, keep_caps, no_setuid_fixup}
 use Rattle.model_rules.specs.SetGroups.{all_down, with_groups, setgroups}
@@ -271,6 +272,9 @@ good_keep_caps c argument keeps =
 pub good_no_new_privs : (c : Credential) (argument : ℕ) → Keeps c → Good (set_no_new_privs c argument)
 good_no_new_privs c argument keeps =
     good_either _ _ _ (good_done (record c { no_new_privs = true }) (keeps_flag c true keeps)) (good_refused EINVAL c keeps)
+
+pub good_install : (c : Credential) → Keeps c → Good (install c)
+good_install c keeps = good_either _ _ _ (good_done c keeps) (good_refused EACCES c keeps)
 
 pub keeps_newcomer : (c : Credential) → Keeps c → Keeps (as_newcomer c)
 keeps_newcomer c keeps = grind arith

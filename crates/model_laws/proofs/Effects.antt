@@ -1,12 +1,13 @@
--- What a step does to the processes and to the members, of three kinds: a call changes its caller's place and credential,
--- a birth brings a child, an exit takes one away.
+-- What a step does to the processes and to the members, of three kinds: a call changes its caller's place, credential
+-- and filter, a birth brings a child, an exit takes one away.
 use Rattle.std.proofs.Common.{arith, ◌≡◌, ◌⊎◌, ℕ, ◌==◌, not, Bool, true, false, List, ◌∷◌, filter, Some, if◌then◌else◌, refl, sym, ap, ◌∙◌, inl, inr, subst}
 use Rattle.cm_base.specs.declared.errno.Errno.{Errno}
-use Rattle.cm_base.specs.declared.errno.Errno.TheVariants.{EAGAIN}
+use Rattle.cm_base.specs.declared.errno.Errno.TheVariants.{EPERM, EAGAIN}
 use Rattle.cm_base.specs.declared.res.Res.{Res}
 use Rattle.cm_base.specs.declared.res.Res.TheVariants.{Done, Id, Child, Err}
 use Rattle.model_cred.proofs.Lookups.{pid_of_found}
-use Rattle.model_cred.specs.Call.{Call, Fork, CloneUser, Exit, Event}
+use Rattle.cm_filter.specs.Filters.{Filter}
+use Rattle.model_cred.specs.Call.{Call, Fork, CloneUser, Exit, Install, Event}
 use Rattle.model_cred.specs.Credential.{Credential}
 use Rattle.model_cred.specs.Process.{Process, State, process_at, put_process, insert_process, without_process, is_alive, is_pid}
 use Rattle.model_cred.specs.Space.{Spaces}
@@ -14,12 +15,13 @@ use Rattle.model_cred.specs.World.{World}
 use Rattle.model_run.specs.Later.{members_after, members_with}
 use Rattle.model_run.specs.Outside.{comes_from_outside}
 use Rattle.model_rules.specs.Namespaces.{clone_user}
-use Rattle.model_run.specs.Ruling.{Ruling, ruling, birth, birth_unless, reply_to, state_left, spaces_left, fork_child, clone_child}
+use Rattle.model_run.specs.Ruling.{Ruling, ruling, permitted_ruling, birth, birth_unless, reply_to, state_left, spaces_left, filter_left}
+use Rattle.model_run.specs.Ruling.{fork_child, clone_child}
 use Rattle.model_run.specs.Step.{Step, told_child, is_living_child}
 use Rattle.model_laws.proofs.Keeping.{told_is_new}
 use Rattle.model_laws.proofs.Refusals.{put_same}
 use Rattle.model_laws.proofs.Results.{IsRuled, reply_plain}
-use Rattle.model_laws.proofs.StepParts.{Stepped, Answers, stepped}
+use Rattle.model_laws.proofs.StepParts.{Stepped, Answers, stepped, by_filter}
 
 -- the result is no child
 abbrev pub IsChildless : Res → Type 0
@@ -28,19 +30,32 @@ IsChildless (Id n) = Unit {0}
 IsChildless (Child n) = ⊥
 IsChildless (Err e) = Unit {0}
 
+-- the call installs a filter
+abbrev pub installs : Call → Bool
+installs (Install more) = true
+installs _ = false
+
+-- and all others leave the caller's
+filter_stays : (p : Process) (call : Call) → installs call ≡ false → filter_left p call ≡ p.filter
+filter_stays p (Install more) wrong = absurd (cc)
+filter_stays p _ is = refl
+
 -- a call that is neither a birth nor an exit that is done
 pub record Calls (before : List Process) (p : Process) (call : Call) (res : Res) (after : List Process) : Type 0 where
   pub space : ℕ
   pub cred : Credential
-  pub processes : after ≡ put_process (record p { space = space; cred = cred }) before
+  pub filter : Filter
+  pub processes : after ≡ put_process (record p { space = space; cred = cred; filter = filter }) before
   pub members : (members : List ℕ) (pid : ℕ) → members_after members pid call res ≡ members
   pub childless : IsChildless res
+  pub kept : installs call ≡ false → filter ≡ p.filter
 
 -- a birth
 pub record Births (before : List Process) (p : Process) (call : Call) (res : Res) (after : List Process) : Type 0 where
   pub child : Process
   pub fresh : is_alive before child.pid ≡ false
   pub forebear : child.forebear ≡ Some p.pid
+  pub filter : child.filter ≡ p.filter
   pub processes : after ≡ insert_process child before
   pub members : (members : List ℕ) (pid : ℕ) → members_after members pid call res ≡ child.pid ∷ members
   pub result : res ≡ Child child.pid
@@ -87,9 +102,11 @@ error_calls : (processes : List Process) (pid : ℕ) (p : Process) (call : Call)
 error_calls processes pid p call res e lives is = record {
   space = p.space;
   cred = p.cred;
+  filter = p.filter;
   processes = sym (put_same processes pid p (pid_of_found processes pid p lives) lives);
   members = λ members n. ap (members_after members n call) is ∙ error_members call e members n;
   childless = subst IsChildless (sym is) tt;
+  kept = λ _. refl;
 }
 
 -- what a step by the rules is owed of the result and the processes
@@ -115,9 +132,9 @@ birth_members _ n members pid fork = refl
 birth_members _ n members pid clone = refl
 
 owed_birth : (s : State) (pid : ℕ) (p child : Process) (after : Spaces) (call : Call) (res : Res) → process_at s.processes pid ≡ Some p
-    → IsBirth call → child.forebear ≡ Some p.pid → (is_pid child.pid ≡ true → is_alive s.processes child.pid ≡ false)
+    → IsBirth call → child.forebear ≡ Some p.pid → child.filter ≡ p.filter → (is_pid child.pid ≡ true → is_alive s.processes child.pid ≡ false)
     → Owed s.processes p call res (birth s child after)
-owed_birth s pid p child after call res lives births forebear fresh =
+owed_birth s pid p child after call res lives births forebear filter fresh =
     owed_if s.processes p call res (is_pid child.pid)
     (record { res = Child child.pid; state = record s { processes = insert_process child s.processes; spaces = after } })
     (record { res = Err EAGAIN; state = s })
@@ -126,6 +143,7 @@ owed_birth s pid p child after call res lives births forebear fresh =
         child = child;
         fresh = fresh named;
         forebear = forebear;
+        filter = filter;
         processes = refl;
         members = λ members n. ap (members_after members n call) is ∙ birth_members call child.pid members n births;
         result = is;
@@ -135,10 +153,10 @@ owed_birth s pid p child after call res lives births forebear fresh =
     (λ _. owed_error s pid p call res EAGAIN lives)
 
 owed_unless : (r : Res) (s : State) (pid : ℕ) (p child : Process) (after : Spaces) (call : Call) (res : Res) → process_at s.processes pid ≡ Some p
-    → IsBirth call → child.forebear ≡ Some p.pid → (is_pid child.pid ≡ true → is_alive s.processes child.pid ≡ false)
+    → IsBirth call → child.forebear ≡ Some p.pid → child.filter ≡ p.filter → (is_pid child.pid ≡ true → is_alive s.processes child.pid ≡ false)
     → Owed s.processes p call res (birth_unless r s child after)
-owed_unless (Err e) s pid p child after call res lives births forebear fresh = owed_error s pid p call res e lives
-owed_unless _ s pid p child after call res lives births forebear fresh = owed_birth s pid p child after call res lives births forebear fresh
+owed_unless (Err e) s pid p child after call res lives births forebear filter fresh = owed_error s pid p call res e lives
+owed_unless _ s pid p child after call res lives births forebear filter fresh = owed_birth s pid p child after call res lives births forebear filter fresh
 
 -- a call that is neither a birth nor an exit
 owed_left : (w : World) (s : State) (pid : ℕ) (p : Process) (call : Call) (res : Res)
@@ -152,21 +170,28 @@ owed_left w s pid p call res brings = record {
       inl (record {
         space = (reply_to w s p call).space;
         cred = (reply_to w s p call).cred;
+        filter = filter_left p call;
         processes = refl;
         members = λ members n. brings res members n ∙ members_stay res plain members;
         childless = plain;
+        kept = filter_stays p call;
       });
 }
 
-owed : (w : World) (s : State) (pid : ℕ) (p : Process) (call : Call) (n : ℕ) (res : Res) → process_at s.processes pid ≡ Some p
-    → (is_pid n ≡ true → is_alive s.processes n ≡ false) → Owed s.processes p call res (ruling w s p call n)
-owed w s pid p Fork n res lives fresh = owed_birth s pid p (fork_child p n) s.spaces Fork res lives fork refl fresh
-owed w s pid p CloneUser n res lives fresh =
-    owed_unless (clone_user s.spaces p.space p.cred) s pid p (clone_child s.spaces p n) (spaces_left s p CloneUser) CloneUser res lives clone refl fresh
-owed w s pid p Exit n res lives fresh = record {
+owed_permitted : (w : World) (s : State) (pid : ℕ) (p : Process) (call : Call) (n : ℕ) (res : Res) → process_at s.processes pid ≡ Some p
+    → (is_pid n ≡ true → is_alive s.processes n ≡ false) → Owed s.processes p call res (permitted_ruling w s p call n)
+owed_permitted w s pid p Fork n res lives fresh = owed_birth s pid p (fork_child p n) s.spaces Fork res lives fork refl refl fresh
+owed_permitted w s pid p CloneUser n res lives fresh =
+    owed_unless (clone_user s.spaces p.space p.cred) s pid p (clone_child s.spaces p n) (spaces_left s p CloneUser) CloneUser res lives clone refl refl fresh
+owed_permitted w s pid p Exit n res lives fresh = record {
   owes = λ is. inr (inr (record { exit = refl; result = is; processes = refl; members = λ members m. ap (members_after members m Exit) is }));
 }
-owed w s pid p call n res lives fresh = owed_left w s pid p call res (λ r members m. refl)
+owed_permitted w s pid p call n res lives fresh = owed_left w s pid p call res (λ r members m. refl)
+
+owed : (w : World) (s : State) (pid : ℕ) (p : Process) (call : Call) (n : ℕ) (res : Res) → process_at s.processes pid ≡ Some p
+    → (is_pid n ≡ true → is_alive s.processes n ≡ false) → Owed s.processes p call res (ruling w s p call n)
+owed w s pid p call n res lives fresh =
+    by_filter (Owed s.processes p call res) w s p call n (owed_error s pid p call res EPERM lives) (owed_permitted w s pid p call n res lives fresh)
 
 effect_of : (w : World) (s : State) (e : Event) (s' : State) (p : Process) → process_at s.processes e.pid ≡ Some p → is_living_child s.processes e.res ≡ false
     → Answers w s p e.call e.res s' → Effect s.processes p e.call e.res s'.processes

@@ -8,7 +8,8 @@ use Rattle.cm_base.specs.declared.res.Res.TheVariants.{Done, Id, Child, Err}
 use Rattle.model_cred.specs.Call.{Call, SetUid, SetReUid, SetResUid, SetFsUid, SetGid, SetReGid, SetResGid, SetFsGid}
 use Rattle.model_cred.specs.Call.{SetGroups, CapSet, BsetDrop, AmbRaise, AmbLower, AmbClear, SecureBits, KeepCaps}
 use Rattle.model_cred.specs.Call.{NoNewPrivs, Fork, CloneUser, Unshare, SetNs, WriteUidMap, WriteGidMap, WriteSetgroups}
-use Rattle.model_cred.specs.Call.{Exec, Exit, Event}
+use Rattle.model_cred.specs.Call.{Exec, Exit, Install, Event}
+use Rattle.cm_filter.specs.Filters.{Filter}
 use Rattle.cm_filter.specs.declared.kind.CallKind.{CallKind}
 use Rattle.model_cred.specs.Credential.{Credential, Keeps}
 use Rattle.model_cred.specs.Files.{FileTable, KeepsFiles}
@@ -23,16 +24,17 @@ use Rattle.model_rules.specs.Namespaces.{unshare, clone_user, join}
 use Rattle.model_rules.specs.Reply.{Reply, reply, spaces_after, stays, place_after, spaces_with, writes}
 use Rattle.model_rules.specs.SetId.{has_setuid, has_setgid}
 use Rattle.model_run.specs.Later.{Later, members_after}
-use Rattle.model_run.specs.Ruling.{Ruling, ruling, birth_unless, reply_to, state_left, state_without, fork_child, clone_child}
+use Rattle.model_run.specs.Ruling.{Ruling, ruling, permitted_ruling, birth_unless, reply_to, state_left, filter_left, state_without}
+use Rattle.model_run.specs.Ruling.{fork_child, clone_child}
 use Rattle.model_run.specs.Step.{Run, told_child, names_no_space, is_living_child}
 use Rattle.model_laws.specs.Runs.{StepKeeps, RunKeeps, LaterKeeps, WorldRunKeeps}
 use Rattle.model_laws.proofs.Credentials.{Good, good_uids, good_gids, good_setfsuid, good_setfsgid, good_setgroups}
 use Rattle.model_laws.proofs.Credentials.{good_capset, good_bset_drop, good_amb_raise, good_amb_lower, good_amb_clear}
 use Rattle.model_laws.proofs.Credentials.{good_secure_bits, good_keep_caps, good_no_new_privs, good_unshare, good_join}
-use Rattle.model_laws.proofs.Credentials.{good_execve, keeps_newcomer}
+use Rattle.model_laws.proofs.Credentials.{good_execve, good_install, keeps_newcomer}
 use Rattle.model_laws.proofs.Ids.{setresid_ids, setreid_ids, setid_ids}
 use Rattle.model_cred.proofs.Orders.{ascends_forth, ascends_back, ascends_put, ascends_insert, ascends_without, all_put, all_insert, all_without, all_found}
-use Rattle.model_laws.proofs.StepParts.{Stepped, Answers, stepped}
+use Rattle.model_laws.proofs.StepParts.{Stepped, Answers, stepped, by_filter}
 use Rattle.model_laws.proofs.Trees.{KeepsTree, GoodWrite, good_map, good_word}
 
 -- What a reply leaves: the caller is in a space that stands and keeps what a credential keeps, and the spaces are a tree
@@ -129,6 +131,7 @@ reply_good files spaces at c (WriteSetgroups target deny) has tree there keeps n
     writes_good spaces at c _ there keeps (good_word spaces at c target deny (stands_there spaces target named) tree)
 reply_good files spaces at c (Exec f) has tree there keeps named = stays_good spaces at _ there tree (good_execve files spaces at c f has keeps)
 reply_good files spaces at c Exit has tree there keeps named = record { space = there; cred = keeps; tree = tree; grows = omega arith }
+reply_good files spaces at c (Install more) has tree there keeps named = stays_good spaces at _ there tree (good_install c keeps)
 
 -- ---- states
 tree_of : (s : State) → KeepsState s → KeepsTree s.spaces
@@ -138,14 +141,14 @@ wider : (n m : ℕ) (processes : List Process) → n ≤ m → All (λ p. p.spac
 wider n m processes le all = All-weaker (λ p. p.space < n) (λ p. p.space < m) (λ p low. omega arith) processes all
 
 -- a process in the place of one, with these spaces
-keeps_left : (s : State) (p : Process) (r : Reply) (after : Spaces) → KeepsState s → GoodReply s.spaces r after
-    → KeepsState (record { processes = put_process (record p { space = r.space; cred = r.cred }) s.processes; spaces = after })
-keeps_left s p r after keeps good = record {
-  ascends = ascends_back 0 (put_process (record p { space = r.space; cred = r.cred }) s.processes)
-      (ascends_put 0 (record p { space = r.space; cred = r.cred }) s.processes (ascends_forth s.processes keeps.ascends));
-  stands = all_put (λ q. q.space < length after) (record p { space = r.space; cred = r.cred }) s.processes good.space
+keeps_left : (s : State) (p : Process) (own : Filter) (r : Reply) (after : Spaces) → KeepsState s → GoodReply s.spaces r after
+    → KeepsState (record { processes = put_process (record p { space = r.space; cred = r.cred; filter = own }) s.processes; spaces = after })
+keeps_left s p own r after keeps good = record {
+  ascends = ascends_back 0 (put_process (record p { space = r.space; cred = r.cred; filter = own }) s.processes)
+      (ascends_put 0 (record p { space = r.space; cred = r.cred; filter = own }) s.processes (ascends_forth s.processes keeps.ascends));
+  stands = all_put (λ q. q.space < length after) (record p { space = r.space; cred = r.cred; filter = own }) s.processes good.space
       (wider (length s.spaces) (length after) s.processes good.grows keeps.stands);
-  credentials = all_put (λ q. Keeps q.cred) (record p { space = r.space; cred = r.cred }) s.processes good.cred keeps.credentials;
+  credentials = all_put (λ q. Keeps q.cred) (record p { space = r.space; cred = r.cred; filter = own }) s.processes good.cred keeps.credentials;
   tree = good.tree.tree;
   spaces = good.tree.each;
 }
@@ -213,18 +216,23 @@ keeps_clone _ s p n plain keeps there cred dead = absurd plain
 keeps_call : (w : World) (s : State) (p : Process) (call : Call) → KeepsFiles w.files → KeepsState s → p.space < length s.spaces → Keeps p.cred
     → names_no_space s.spaces call ≡ false → KeepsState (state_left s p call (reply_to w s p call))
 keeps_call w s p call has keeps there cred named =
-    keeps_left s p (reply_to w s p call) (spaces_after s.spaces p.space p.cred call) keeps
+    keeps_left s p (filter_left p call) (reply_to w s p call) (spaces_after s.spaces p.space p.cred call) keeps
     (reply_good w.files s.spaces p.space p.cred call has (tree_of s keeps) there cred named)
+
+keeps_permitted : (w : World) (s : State) (p : Process) (call : Call) (n : ℕ) → KeepsFiles w.files → KeepsState s → p.space < length s.spaces → Keeps p.cred
+    → names_no_space s.spaces call ≡ false → (is_pid n ≡ true → is_alive s.processes n ≡ false) → KeepsState (permitted_ruling w s p call n).state
+keeps_permitted w s p Fork n has keeps there cred named dead =
+    keeps_birth s (fork_child p n) s.spaces (is_pid n) keeps (λ is.
+    keeps_born s (fork_child p n) s.spaces keeps (dead is) there cred (omega arith) (tree_of s keeps))
+keeps_permitted w s p CloneUser n has keeps there cred named dead =
+    keeps_clone (clone_user s.spaces p.space p.cred) s p n (clone_plain s.spaces p.space p.cred) keeps there cred dead
+keeps_permitted w s p Exit n has keeps there cred named dead = keeps_without s p keeps
+keeps_permitted w s p call n has keeps there cred named dead = keeps_call w s p call has keeps there cred named
 
 keeps_ruling : (w : World) (s : State) (p : Process) (call : Call) (n : ℕ) → KeepsFiles w.files → KeepsState s → p.space < length s.spaces → Keeps p.cred
     → names_no_space s.spaces call ≡ false → (is_pid n ≡ true → is_alive s.processes n ≡ false) → KeepsState (ruling w s p call n).state
-keeps_ruling w s p Fork n has keeps there cred named dead =
-    keeps_birth s (fork_child p n) s.spaces (is_pid n) keeps (λ is.
-    keeps_born s (fork_child p n) s.spaces keeps (dead is) there cred (omega arith) (tree_of s keeps))
-keeps_ruling w s p CloneUser n has keeps there cred named dead =
-    keeps_clone (clone_user s.spaces p.space p.cred) s p n (clone_plain s.spaces p.space p.cred) keeps there cred dead
-keeps_ruling w s p Exit n has keeps there cred named dead = keeps_without s p keeps
-keeps_ruling w s p call n has keeps there cred named dead = keeps_call w s p call has keeps there cred named
+keeps_ruling w s p call n has keeps there cred named dead =
+    by_filter (λ r. KeepsState r.state) w s p call n keeps (keeps_permitted w s p call n has keeps there cred named dead)
 
 -- the child that is told isn't alive
 pub told_is_new : (processes : List Process) (res : Res) → is_living_child processes res ≡ false

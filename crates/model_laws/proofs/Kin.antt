@@ -2,6 +2,7 @@
 use Rattle.std.proofs.Common.{arith, ◌≡◌, ◌≢◌, ◌⊎◌, ℕ, true, false, List, Option, Some, None, refl, sym, ap, ◌∙◌, inl, inr}
 use Rattle.std.specs.Prelude.{is_some, option_map}
 use Rattle.std.proofs.lemmas.Bool.{cases_Bool, cases_eq, cond-true, cond-false}
+use Rattle.cm_filter.specs.Filters.{Filter}
 use Rattle.model_cred.specs.Credential.{Credential}
 use Rattle.model_cred.specs.IdMap.{is_the}
 use Rattle.model_cred.specs.Process.{Process, State, process_at, put_process, insert_process, without_process, is_alive, after_exit}
@@ -48,13 +49,13 @@ chain_stays s s' pid stay (next n f p lives forebear rest) =
     next n f kin.process kin.lives (kin.forebear ∙ forebear) (chain_stays s s' f stay rest)
 
 -- ---- a call of one process
-module _ (s s' : State) (p : Process) (lives : process_at s.processes p.pid ≡ Some p) (place : ℕ) (cred : Credential)
-    (is : s'.processes ≡ put_process (record p { space = place; cred = cred }) s.processes) where
-  pub caller_after : process_at s'.processes p.pid ≡ Some (record p { space = place; cred = cred })
-  caller_after = ap (λ ps. process_at ps p.pid) is ∙ at_put_same (record p { space = place; cred = cred }) p s.processes lives
+module _ (s s' : State) (p : Process) (lives : process_at s.processes p.pid ≡ Some p) (place : ℕ) (cred : Credential) (own : Filter)
+    (is : s'.processes ≡ put_process (record p { space = place; cred = cred; filter = own }) s.processes) where
+  pub caller_after : process_at s'.processes p.pid ≡ Some (record p { space = place; cred = cred; filter = own })
+  caller_after = ap (λ ps. process_at ps p.pid) is ∙ at_put_same (record p { space = place; cred = cred; filter = own }) p s.processes lives
 
   pub other_after : (pid : ℕ) → pid ≢ p.pid → process_at s'.processes pid ≡ process_at s.processes pid
-  other_after pid apart = ap (λ ps. process_at ps pid) is ∙ at_put_other (record p { space = place; cred = cred }) s.processes pid apart
+  other_after pid apart = ap (λ ps. process_at ps pid) is ∙ at_put_other (record p { space = place; cred = cred; filter = own }) s.processes pid apart
 
   pub call_kin : KinStay s s'
   call_kin pid q at =
@@ -62,7 +63,7 @@ module _ (s s' : State) (p : Process) (lives : process_at s.processes p.pid ≡ 
         | inl same ↦
             let e : p ≡ q = one_some p q (process_at s.processes p.pid) lives (sym (ap (process_at s.processes) same) ∙ at) in
             record {
-              process = record p { space = place; cred = cred };
+              process = record p { space = place; cred = cred; filter = own };
               lives = ap (process_at s'.processes) same ∙ caller_after;
               forebear = ap (λ (r : Process). r.forebear) e;
             }
@@ -73,8 +74,8 @@ module _ (s s' : State) (p : Process) (lives : process_at s.processes p.pid ≡ 
   call_kin_back pid q at =
       elim (cases_eq pid p.pid) [
         | inl same ↦
-            let e : record p { space = place; cred = cred } ≡ q
-            = one_some (record p { space = place; cred = cred }) q (process_at s'.processes p.pid) caller_after
+            let e : record p { space = place; cred = cred; filter = own } ≡ q
+            = one_some (record p { space = place; cred = cred; filter = own }) q (process_at s'.processes p.pid) caller_after
             (sym (ap (process_at s'.processes) same) ∙ at) in
             record { process = p; lives = ap (process_at s.processes) same ∙ lives; forebear = ap (λ (r : Process). r.forebear) e }
         | inr other ↦ record { process = q; lives = sym (other_after pid other) ∙ at; forebear = refl }

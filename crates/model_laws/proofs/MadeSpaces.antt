@@ -2,6 +2,7 @@
 use Rattle.std.proofs.Common.{◌≡◌, ◌≤◌, ℕ, ◌+◌, Bool, true, false, not, List, [], ◌∷◌, length, Option, None, Some, if◌then◌else◌, refl, sym, ap, ◌∙◌, inl, inr, arith}
 use Rattle.cm_base.specs.Limited.{limit_number}
 use Rattle.cm_base.specs.declared.limited.Limited.TheVariants as limit
+use Rattle.cm_base.specs.declared.errno.Errno.{Errno}
 use Rattle.cm_base.specs.declared.errno.Errno.TheVariants.{EAGAIN, EINVAL, EPERM}
 use Rattle.cm_base.specs.declared.res.Res.{Res}
 use Rattle.cm_base.specs.declared.res.Res.TheVariants.{Child, Err}
@@ -15,14 +16,14 @@ use Rattle.model_cred.specs.Process.{Process, State, is_pid, insert_process}
 use Rattle.model_cred.specs.Space.{Spaces, space_of}
 use Rattle.model_cred.specs.World.{World}
 use Rattle.model_laws.proofs.Keeping.{IsPlain, clone_plain}
-use Rattle.model_laws.proofs.StepParts.{Stepped, Answers, stepped}
+use Rattle.model_laws.proofs.StepParts.{Stepped, Answers, stepped, by_filter}
 use Rattle.model_laws.specs.Steps.{StepsMakeSpaces}
 use Rattle.model_rules.specs.Maps.{MapFile, UidMap, GidMap, Written, write_done, write_refused, write_map, write_stored, with_map, write_setgroups}
 use Rattle.model_rules.specs.Maps.{parent_map, list_down, may_write}
 use Rattle.model_rules.specs.Namespaces.{clone_user, unshare}
 use Rattle.model_rules.specs.Reply.{spaces_with}
 use Rattle.model_run.specs.Outside.{comes_from_outside}
-use Rattle.model_run.specs.Ruling.{Ruling, ruling, birth_unless, clone_child, fork_child}
+use Rattle.model_run.specs.Ruling.{Ruling, ruling, permitted_ruling, birth_unless, clone_child, fork_child}
 use Rattle.model_run.specs.Step.{told_child}
 use Rattle.model_run.specs.Within.{IsWithin}
 
@@ -77,16 +78,26 @@ clone_makes r s p n plain = grind arith
 unshared : (r : Res) (spaces : Spaces) (at : ℕ) (c : Credential) → length (spaces_with r spaces at c) ≡ length spaces + made Unshare r
 unshared r spaces at c = grind arith
 
-ruling_makes : (w : World) (s : State) (p : Process) (call : Call) (n : ℕ) → Makes s call (ruling w s p call n)
-ruling_makes w s p Fork n = fork_makes s (fork_child p n) (is_pid n)
-ruling_makes w s p CloneUser n = clone_makes (clone_user s.spaces p.space p.cred) s p n (clone_plain s.spaces p.space p.cred)
-ruling_makes w s p Unshare n = unshared (unshare s.spaces p.space p.cred).res s.spaces p.space p.cred
-ruling_makes w s p (WriteUidMap target given) n = let same = map_count UidMap s.spaces p.space p.cred target given in omega (arith, same)
-ruling_makes w s p (WriteGidMap target given) n = let same = map_count GidMap s.spaces p.space p.cred target given in omega (arith, same)
-ruling_makes w s p (WriteSetgroups target deny) n = let same = word_count s.spaces p.space p.cred target deny in omega (arith, same)
-ruling_makes w s p call n = omega arith
+permitted_makes : (w : World) (s : State) (p : Process) (call : Call) (n : ℕ) → Makes s call (permitted_ruling w s p call n)
+permitted_makes w s p Fork n = fork_makes s (fork_child p n) (is_pid n)
+permitted_makes w s p CloneUser n = clone_makes (clone_user s.spaces p.space p.cred) s p n (clone_plain s.spaces p.space p.cred)
+permitted_makes w s p Unshare n = unshared (unshare s.spaces p.space p.cred).res s.spaces p.space p.cred
+permitted_makes w s p (WriteUidMap target given) n = let same = map_count UidMap s.spaces p.space p.cred target given in omega (arith, same)
+permitted_makes w s p (WriteGidMap target given) n = let same = map_count GidMap s.spaces p.space p.cred target given in omega (arith, same)
+permitted_makes w s p (WriteSetgroups target deny) n = let same = word_count s.spaces p.space p.cred target deny in omega (arith, same)
+permitted_makes w s p call n = omega arith
 
 -- ---- steps
+-- an error makes none
+error_makes : (call : Call) (e : Errno) → made call (Err e) ≡ 0
+error_makes CloneUser e = refl
+error_makes Unshare e = refl
+error_makes call e = refl
+
+ruling_makes : (w : World) (s : State) (p : Process) (call : Call) (n : ℕ) → Makes s call (ruling w s p call n)
+ruling_makes w s p call n =
+    by_filter (Makes s call) w s p call n (let none = error_makes call EPERM in omega (arith, none)) (permitted_makes w s p call n)
+
 -- an error from outside makes none
 outside_makes : (call : Call) (r : Res) → comes_from_outside call r ≡ true → made call r ≡ 0
 outside_makes call r is = grind arith

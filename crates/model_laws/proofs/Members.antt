@@ -56,8 +56,8 @@ family_effect : (w : World) (s : State) (e : Event) (s' : State) (root : ℕ) (m
 family_effect w s e s' root members d chains are member stays (inl calls) =
     subst (AreFamily s' root) (sym (calls.members members e.pid))
     (λ pid. (
-      λ is. family_stays s s' root pid (call_kin s s' d.caller (caller_lives w s e s' d) calls.space calls.cred calls.processes) ((are pid).0 is),
-      λ of_it. (are pid).1 (family_stays s' s root pid (call_kin_back s s' d.caller (caller_lives w s e s' d) calls.space calls.cred calls.processes) of_it),
+      λ is. family_stays s s' root pid (call_kin s s' d.caller (caller_lives w s e s' d) calls.space calls.cred calls.filter calls.processes) ((are pid).0 is),
+      λ of_it. (are pid).1 (family_stays s' s root pid (call_kin_back s s' d.caller (caller_lives w s e s' d) calls.space calls.cred calls.filter calls.processes) of_it),
     ))
 family_effect w s e s' root members d chains are member stays (inr (inl births)) =
     subst (AreFamily s' root) (sym (births.members members e.pid))
@@ -96,8 +96,8 @@ chains_effect : (w : World) (s : State) (e : Event) (s' : State) (d : Does w s e
     → Effect s.processes d.caller e.call e.res s'.processes → ChainsEnd s'
 chains_effect w s e s' d chains (inl calls) pid alive =
     let q : (q : Process) × (process_at s'.processes pid ≡ Some q) = there (process_at s'.processes pid) alive in
-    let was = call_kin_back s s' d.caller (caller_lives w s e s' d) calls.space calls.cred calls.processes pid q.0 q.1 in
-    chain_stays s s' pid (call_kin s s' d.caller (caller_lives w s e s' d) calls.space calls.cred calls.processes)
+    let was = call_kin_back s s' d.caller (caller_lives w s e s' d) calls.space calls.cred calls.filter calls.processes pid q.0 q.1 in
+    chain_stays s s' pid (call_kin s s' d.caller (caller_lives w s e s' d) calls.space calls.cred calls.filter calls.processes)
     (chains pid (alive_found s.processes pid was.process was.lives))
 chains_effect w s e s' d chains (inr (inl births)) pid alive =
     let stay : KinStay s s' = birth_kin s s' births.child births.fresh births.processes in
@@ -189,11 +189,12 @@ others_effect w s e s' members pid p d member lives outside (inl calls) = record
   outside = record {
     process = p;
     lives =
-        other_after s s' d.caller (caller_lives w s e s' d) calls.space calls.cred calls.processes pid
+        other_after s s' d.caller (caller_lives w s e s' d) calls.space calls.cred calls.filter calls.processes pid
         (λ same. apart_by members pid e.pid outside member (same ∙ d.named))
         ∙ lives;
     space = refl;
     cred = refl;
+    filter = refl;
     outside = ap (λ (m : List ℕ). is_member m pid) (calls.members members e.pid) ∙ outside;
   };
   whole = λ _. refl;
@@ -206,6 +207,7 @@ others_effect w s e s' members pid p d member lives outside (inr (inl births)) =
         lives = old_after s s' births.child births.fresh births.processes pid other ∙ lives;
         space = refl;
         cred = refl;
+        filter = refl;
         outside = ap (λ (m : List ℕ). is_member m pid) (births.members members e.pid)
             ∙ or_from (births.child.pid == pid) (is_member members pid) (ne_eqb births.child.pid pid (λ same. other (sym same))) outside;
       };
@@ -217,6 +219,7 @@ others_effect w s e s' members pid p d member lives outside (inr (inr exits)) = 
     lives = rest_after s s' d.caller (caller_lives w s e s' d) exits.processes pid p (λ same. apart_by members pid e.pid outside member (same ∙ d.named)) lives;
     space = same_place d.caller p (is_the p.forebear d.caller.pid);
     cred = same_cred d.caller p (is_the p.forebear d.caller.pid);
+    filter = same_filter d.caller p (is_the p.forebear d.caller.pid);
     outside =
         ap (λ (m : List ℕ). is_member m pid) (exits.members members e.pid) ∙ filter_member members e.pid pid
         ∙ and_right (not (pid == e.pid)) (is_member members pid) outside;
@@ -232,6 +235,10 @@ others_effect w s e s' members pid p d member lives outside (inr (inr exits)) = 
     same_cred gone q true = refl
     same_cred gone q false = refl
 
+    same_filter : (gone q : Process) (b : Bool) → (let r : Process = if b then record q { forebear = gone.forebear } else q in r).filter ≡ q.filter
+    same_filter gone q true = refl
+    same_filter gone q false = refl
+
 others_step : (w : World) (s : State) (e : Event) (s' : State) (members : List ℕ) (pid : ℕ) (p : Process) → is_member members e.pid ≡ true → Step w s e s'
     → process_at s.processes pid ≡ Some p → is_member members pid ≡ false → StaysOne pid p s' (members_after members e.pid e.call e.res) e.pid
 others_step w s e s' members pid p member step lives outside =
@@ -245,6 +252,7 @@ others_later permitted w s members [] s' members' pid p later lives outside = re
   lives = ap (λ (t : State). process_at t.processes pid) later.0 ∙ lives;
   space = refl;
   cred = refl;
+  filter = refl;
   outside = ap (λ (m : List ℕ). is_member m pid) later.1 ∙ outside;
 }
 others_later permitted w s members (e ∷ es) s' members' pid p later lives outside =
@@ -252,7 +260,14 @@ others_later permitted w s members (e ∷ es) s' members' pid p later lives outs
     let rest : StaysOutside pid now.outside.process s' members'
     = others_later permitted w later.0
     (members_after members e.pid e.call e.res) es s' members' pid now.outside.process later.4 now.outside.lives now.outside.outside in
-    record { process = rest.process; lives = rest.lives; space = rest.space ∙ now.outside.space; cred = rest.cred ∙ now.outside.cred; outside = rest.outside }
+    record {
+      process = rest.process;
+      lives = rest.lives;
+      space = rest.space ∙ now.outside.space;
+      cred = rest.cred ∙ now.outside.cred;
+      filter = rest.filter ∙ now.outside.filter;
+      outside = rest.outside;
+    }
 
 pub others_stay : OthersStay
 unfolding OthersStay

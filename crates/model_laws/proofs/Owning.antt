@@ -1,24 +1,27 @@
 -- A process's own step.
 use Rattle.std.proofs.Common.{arith, ◌≡◌, ◌⊎◌, ℕ, Bool, true, false, List, Option, Some, None, if◌then◌else◌, refl, sym, ap, ◌∙◌, inl, inr, subst}
-use Rattle.std.proofs.lemmas.Bool.{cases_Bool, cond-true, cond-false}
+use Rattle.std.proofs.lemmas.Bool.{cases_Bool, cond-true, cond-false, and_parts}
 use Rattle.cm_base.specs.declared.errno.Errno.{Errno}
 use Rattle.cm_base.specs.declared.errno.Errno.TheVariants.{EAGAIN}
 use Rattle.cm_base.specs.declared.res.Res.{Res}
 use Rattle.cm_base.specs.declared.res.Res.TheVariants.{Done, Err}
-use Rattle.model_cred.specs.Call.{Call, Fork, CloneUser, Exit, Event}
+use Rattle.cm_filter.specs.Filters.{excludes, permits}
+use Rattle.model_cred.specs.Call.{Call, Fork, CloneUser, Exit, Event, kind_of}
 use Rattle.model_cred.specs.Process.{Process, State, process_at, is_alive, is_pid}
 use Rattle.model_cred.specs.Space.{Spaces}
 use Rattle.model_cred.specs.World.{World}
 use Rattle.model_run.specs.Outside.{comes_from_outside}
 use Rattle.model_rules.specs.Namespaces.{clone_user}
-use Rattle.model_run.specs.Ruling.{Ruling, ruling, own, free_pid, birth, birth_unless, reply_to, state_left, spaces_left, fork_child, clone_child}
+use Rattle.model_run.specs.Ruling.{Ruling, ruling, permitted_ruling, excluded_ruling, own, free_pid, birth, birth_unless, reply_to, state_left, spaces_left, fork_child, clone_child}
 use Rattle.model_run.specs.Same.{same_res}
 use Rattle.model_run.specs.Step.{Goes, NoSpace, PidInUse, Wrong, Step, outcome, outcome_for, told_call, told_rules, told_child, names_no_space, is_living_child}
+use Rattle.model_run.specs.Step.{answers_from_outside}
 use Rattle.model_laws.specs.Owns.{OwnIsStep, WrongHasOwnAnswer, AllPidsLive, AgainForWantOfPids}
 use Rattle.model_laws.proofs.Pids.{free_is_least}
 use Rattle.model_laws.proofs.Refusals.{safe_ruling}
 use Rattle.model_laws.proofs.Effects.{outside_error}
 use Rattle.model_laws.proofs.Results.{IsRuled, clone_ruled, reply_plain}
+use Rattle.model_laws.proofs.StepParts.{by_filter}
 
 -- ---- births
 -- The ruling with the child that the result tells is the ruling, and a child that it tells isn't alive.
@@ -44,11 +47,17 @@ again_left w s p call n = record {
       λ _. ruled_childless s.processes (reply_to w s p call).res (reply_plain w.files s.spaces p.space p.cred call).ruled;
 }
 
+again_permitted : (w : World) (s : State) (p : Process) (call : Call) (n : ℕ) → Again s (permitted_ruling w s p call) n
+again_permitted w s p Fork n = again_birth s (fork_child p) s.spaces n (λ m. refl)
+again_permitted w s p CloneUser n = again_unless (clone_user s.spaces p.space p.cred) s (clone_child s.spaces p) (spaces_left s p CloneUser) n (λ m. refl)
+again_permitted w s p Exit n = record { same = refl; fresh = λ _. refl }
+again_permitted w s p call n = again_left w s p call n
+
 again : (w : World) (s : State) (p : Process) (call : Call) (n : ℕ) → Again s (ruling w s p call) n
-again w s p Fork n = again_birth s (fork_child p) s.spaces n (λ m. refl)
-again w s p CloneUser n = again_unless (clone_user s.spaces p.space p.cred) s (clone_child s.spaces p) (spaces_left s p CloneUser) n (λ m. refl)
-again w s p Exit n = record { same = refl; fresh = λ _. refl }
-again w s p call n = again_left w s p call n
+again w s p call n = go (excludes p.filter (kind_of call)) where
+  go : (b : Bool) → Again s (λ m. if b then excluded_ruling s else permitted_ruling w s p call m) n
+  go true = record { same = refl; fresh = λ _. refl }
+  go false = again_permitted w s p call n
 
 -- ---- the own step
 same_itself : (r : Res) → same_res r r ≡ true
@@ -58,13 +67,14 @@ own_told : (w : World) (s : State) (pid : ℕ) (p : Process) (call : Call) → p
     → told_call w s p call (own w s p call).res ≡ Goes (own w s p call).state
 own_told w s pid p call lives =
     let r : Ruling = own w s p call in
-    elim (cases_Bool (comes_from_outside call r.res)) [
+    elim (cases_Bool (answers_from_outside p call r.res)) [
       | inl outside ↦
-          let error : (e : Errno) × (r.res ≡ Err e) = outside_error call r.res outside in
-          cond-true (comes_from_outside call r.res) (Goes s) (told_rules r.res (ruling w s p call (told_child r.res)) r) outside
+          let error : (e : Errno) × (r.res ≡ Err e) =
+          outside_error call r.res (and_parts (permits p.filter (kind_of call)) (comes_from_outside call r.res) outside).1 in
+          cond-true (answers_from_outside p call r.res) (Goes s) (told_rules r.res (ruling w s p call (told_child r.res)) r) outside
           ∙ ap (λ (t : State). Goes t) (sym ((safe_ruling w s pid p lives call (free_pid s)).keeps error.0 error.1))
       | inr inside ↦
-          cond-false (comes_from_outside call r.res) (Goes s) (told_rules r.res (ruling w s p call (told_child r.res)) r) inside
+          cond-false (answers_from_outside p call r.res) (Goes s) (told_rules r.res (ruling w s p call (told_child r.res)) r) inside
           ∙ ap (λ (x : Ruling). told_rules r.res x r) ((again w s p call (free_pid s)).same)
           ∙ cond-true (same_res r.res r.res) (Goes r.state) (Wrong r.res) (same_itself r.res)
     ]
@@ -104,7 +114,7 @@ wrong_call : (w : World) (s : State) (e : Event) (answer : Res) (p : Process) �
 wrong_call w s e answer p lives true b named is = absurd (cc)
 wrong_call w s e answer p lives false true named is = absurd (cc)
 wrong_call w s e answer p lives false false named is =
-    wrong_rules w s e answer p lives named (comes_from_outside e.call e.res) (same_res e.res (ruling w s p e.call (told_child e.res)).res)
+    wrong_rules w s e answer p lives named (answers_from_outside p e.call e.res) (same_res e.res (ruling w s p e.call (told_child e.res)).res)
     (ruling w s p e.call (told_child e.res)).state is
 
 wrong_event : (w : World) (s : State) (e : Event) (answer : Res) (o : Option Process) → process_at s.processes e.pid ≡ o → outcome_for w s o e ≡ Wrong answer
@@ -141,15 +151,21 @@ unless_again r s child after ruled is = grind arith
 left_again : (w : World) (s : State) (p : Process) (call : Call) → (reply_to w s p call).res ≡ Err EAGAIN → ((call ≡ Fork) ⊎ (call ≡ CloneUser)) × AllPidsLive s
 left_again w s p call is = absurd (never_again (reply_to w s p call).res (reply_plain w.files s.spaces p.space p.cred call).ruled is)
 
-own_again : (w : World) (s : State) (p : Process) (call : Call) → (own w s p call).res ≡ Err EAGAIN → ((call ≡ Fork) ⊎ (call ≡ CloneUser)) × AllPidsLive s
-own_again w s p Fork is = (inl refl, (free_is_least s).none (birth_again s (fork_child p (free_pid s)) s.spaces is))
-own_again w s p CloneUser is = (
+permitted_again : (w : World) (s : State) (p : Process) (call : Call) → (permitted_ruling w s p call (free_pid s)).res ≡ Err EAGAIN
+    → ((call ≡ Fork) ⊎ (call ≡ CloneUser)) × AllPidsLive s
+permitted_again w s p Fork is = (inl refl, (free_is_least s).none (birth_again s (fork_child p (free_pid s)) s.spaces is))
+permitted_again w s p CloneUser is = (
   inr refl,
   (free_is_least s).none (unless_again (clone_user s.spaces p.space p.cred) s (clone_child s.spaces p (free_pid s)) (spaces_left s p CloneUser)
       (clone_ruled s.spaces p.space p.cred) is),
 )
-own_again w s p Exit is = absurd (let never : Done ≡ Err EAGAIN = is in cc)
-own_again w s p call is = left_again w s p call is
+permitted_again w s p Exit is = absurd (let never : Done ≡ Err EAGAIN = is in cc)
+permitted_again w s p call is = left_again w s p call is
+
+own_again : (w : World) (s : State) (p : Process) (call : Call) → (own w s p call).res ≡ Err EAGAIN → ((call ≡ Fork) ⊎ (call ≡ CloneUser)) × AllPidsLive s
+own_again w s p call =
+    by_filter (λ r. r.res ≡ Err EAGAIN → ((call ≡ Fork) ⊎ (call ≡ CloneUser)) × AllPidsLive s) w s p call (free_pid s)
+    (λ wrong. absurd (cc)) (permitted_again w s p call)
 
 pub again_for_want_of_pids : AgainForWantOfPids
 unfolding AgainForWantOfPids

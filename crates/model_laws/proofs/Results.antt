@@ -1,6 +1,5 @@
 -- What the rules answer: no child, no error but four, and a refusal leaves the caller and the spaces as they were.
-use Rattle.std.proofs.Common.{arith, ◌≡◌, ℕ, Bool, true, false, List, length, Option, Some, None, if◌then◌else◌, refl}
-use Rattle.std.proofs.Common.{ap, subst}
+use Rattle.std.proofs.Common.{arith, ◌≡◌, ℕ, Bool, true, false, List, length, Option, Some, None, if◌then◌else◌, refl, ap, subst}
 use Rattle.std.specs.Prelude.{Result, Ok}
 use Rattle.std.specs.declared.result.Result.TheVariants.{Err as Failed}
 use Rattle.cm_base.specs.declared.errno.Errno.{Errno}
@@ -10,18 +9,20 @@ use Rattle.cm_base.specs.declared.res.Res.TheVariants.{Done, Id, Child, Err}
 use Rattle.model_cred.specs.Call.{Call, SetUid, SetReUid, SetResUid, SetFsUid, SetGid, SetReGid, SetResGid, SetFsGid}
 use Rattle.model_cred.specs.Call.{SetGroups, CapSet, BsetDrop, AmbRaise, AmbLower, AmbClear, SecureBits, KeepCaps}
 use Rattle.model_cred.specs.Call.{NoNewPrivs, Fork, CloneUser, Unshare, SetNs, WriteUidMap, WriteGidMap, WriteSetgroups}
-use Rattle.model_cred.specs.Call.{Exec, Exit}
+use Rattle.model_cred.specs.Call.{Exec, Exit, Install}
+use Rattle.cm_filter.specs.Filters.{Filter}
 use Rattle.model_cred.specs.Credential.{Credential, FourIds}
 use Rattle.model_cred.specs.Files.{FileTable}
 use Rattle.model_cred.specs.IdMap.{Extent, extents_of}
 use Rattle.model_cred.specs.Space.{Space, Spaces, space_of}
 use Rattle.model_rules.specs.Answer.{Answer, done, refused}
+use Rattle.model_rules.specs.Install.{installed}
 use Rattle.model_rules.specs.Maps.{MapFile, UidMap, GidMap, Written, write_map, write_stored, write_setgroups, write_done, write_refused}
 use Rattle.model_rules.specs.Namespaces.{unshare, clone_user, join}
-use Rattle.model_rules.specs.Reply.{Reply, reply, spaces_after, stays, place_after, spaces_with, writes}
+use Rattle.model_rules.specs.Reply.{Reply, reply, spaces_after, filter_after, stays, place_after, spaces_with, writes}
 use Rattle.model_rules.specs.SetGroups.{with_groups}
-use Rattle.model_rules.specs.SetId.{one_mapped, both_mapped, all_mapped, setresid, setreid, setid, with_uids, with_gids}
-use Rattle.model_rules.specs.SetId.{has_setuid, has_setgid}
+use Rattle.model_rules.specs.SetId.{one_mapped, both_mapped, all_mapped, setresid, setreid, setid}
+use Rattle.model_rules.specs.SetId.{with_uids, with_gids, has_setuid, has_setgid}
 
 -- the errors of the rules
 abbrev pub IsRuleError : Errno → Type 0
@@ -211,3 +212,10 @@ reply_plain files spaces at c (WriteSetgroups target deny) = writes_plain spaces
 reply_plain files spaces at c (Exec f) =
     stays_plain spaces at c _ (plain_if c _ _ _ (plain_refused EACCES c tt) (plain_if c _ _ _ (plain_refused EPERM c tt) (plain_done c _)))
 reply_plain files spaces at c Exit = stays_plain spaces at c _ (plain_done c c)
+reply_plain files spaces at c (Install more) = stays_plain spaces at c _ (plain_if c _ _ _ (plain_done c c) (plain_refused EACCES c tt))
+
+-- a refusal leaves the caller's filter too
+pub filter_kept : (files : FileTable) (spaces : Spaces) (at : ℕ) (filter : Filter) (c : Credential) (call : Call) (e : Errno)
+    → (reply files spaces at c call).res ≡ Err e → filter_after filter c call ≡ filter
+filter_kept files spaces at filter c (Install more) e is = ap (λ (r : Res). installed r filter more) is
+filter_kept files spaces at filter c _ e is = refl

@@ -1,18 +1,20 @@
 -- What a step is made of: the caller, and an error from outside or what the rules give.
 use Rattle.std.proofs.Common.{arith, ◌≡◌, ◌⊎◌, ℕ, Bool, true, false, [], ◌∷◌, get_or, Option, Some, None, if◌then◌else◌, refl, sym, ap, ◌∙◌, inl, inr}
-use Rattle.std.proofs.lemmas.Bool.{eqb-true}
+use Rattle.std.proofs.lemmas.Bool.{eqb-true, and_parts}
 use Rattle.cm_base.specs.declared.errno.Errno.{Errno}
 use Rattle.cm_base.specs.declared.errno.Errno.TheVariants.{EPERM, EINVAL, ENOSPC, ENOMEM, EAGAIN, EINTR, EFAULT, EIO}
 use Rattle.cm_base.specs.declared.errno.Errno.TheVariants.{ENOENT, EACCES, ENOTDIR, ELOOP, ENAMETOOLONG, E2BIG, ENOEXEC}
 use Rattle.cm_base.specs.declared.errno.Errno.TheVariants.{ETXTBSY, ELIBBAD}
 use Rattle.cm_base.specs.declared.res.Res.{Res}
-use Rattle.model_cred.specs.Call.{Call, Event}
+use Rattle.cm_filter.specs.Filters.{excludes, permits}
+use Rattle.model_cred.specs.Call.{Call, Event, kind_of}
 use Rattle.model_cred.specs.Process.{Process, State, process_at}
 use Rattle.model_cred.specs.World.{World}
 use Rattle.model_run.specs.Outside.{comes_from_outside}
-use Rattle.model_run.specs.Ruling.{ruling, own}
+use Rattle.model_run.specs.Ruling.{Ruling, ruling, permitted_ruling, excluded_ruling, own}
 use Rattle.model_run.specs.Same.{same_res, same_errno, errno_number}
-use Rattle.model_run.specs.Step.{Step, Goes, NoSpace, PidInUse, Wrong, outcome_for, names_no_space, is_living_child, told_child, told_call, told_rules}
+use Rattle.model_run.specs.Step.{Step, Goes, NoSpace, PidInUse, Wrong, outcome_for, names_no_space, is_living_child, told_child, told_call}
+use Rattle.model_run.specs.Step.{told_rules, answers_from_outside}
 
 -- the error of a number
 abbrev errno_at : ℕ → Errno
@@ -31,10 +33,18 @@ one_errno a b same = sym (errno_back a) ∙ ap errno_at (eqb-true (errno_number 
 pub one_res : (a b : Res) → same_res a b ≡ true → a ≡ b
 one_res a b same = grind arith
 
+-- What holds of the answer to an excluded call, and of what the rules give for a permitted one, holds of what they
+-- give.
+pub by_filter : (P : Ruling → Type 0) (w : World) (s : State) (p : Process) (call : Call) (n : ℕ)
+    → P (excluded_ruling s) → P (permitted_ruling w s p call n) → P (ruling w s p call n)
+by_filter P w s p call n excluded permitted = go (excludes p.filter (kind_of call)) where
+  go : (b : Bool) → P (if b then excluded_ruling s else permitted_ruling w s p call n)
+  go true = excluded
+  go false = permitted
+
 -- What a step of a live process with a call and a result is: what the rules give, or an error from outside with nothing
 -- changed.
 pub record ByRules (w : World) (s : State) (p : Process) (call : Call) (res : Res) (s' : State) : Type 0 where
-  pub inside : comes_from_outside call res ≡ false
   pub result : res ≡ (ruling w s p call (told_child res)).res
   pub state : s' ≡ (ruling w s p call (told_child res)).state
 
@@ -57,25 +67,25 @@ goes_same : (s s' : State) → Goes s ≡ Goes s' → s' ≡ s
 goes_same s s' e = cc
 
 -- what the rules give, by the test of the result
-rules_give : (w : World) (s : State) (p : Process) (call : Call) (res : Res) (s' : State) → comes_from_outside call res ≡ false
+rules_give : (w : World) (s : State) (p : Process) (call : Call) (res : Res) (s' : State)
     → (b : Bool) → same_res res (ruling w s p call (told_child res)).res ≡ b
     → (if b then Goes (ruling w s p call (told_child res)).state else Wrong (own w s p call).res) ≡ Goes s'
     → ByRules w s p call res s'
-rules_give w s p call res s' inside true same goes =
+rules_give w s p call res s' true same goes =
     record {
-      inside = inside;
       result = one_res res (ruling w s p call (told_child res)).res same;
       state = goes_same (ruling w s p call (told_child res)).state s' goes;
     }
-rules_give w s p call res s' inside false other wrong = absurd (cc)
+rules_give w s p call res s' false other wrong = absurd (cc)
 
 -- a call's answer, by the test for an error from outside
-call_gives : (w : World) (s : State) (p : Process) (call : Call) (res : Res) (s' : State) (b : Bool) → comes_from_outside call res ≡ b
+call_gives : (w : World) (s : State) (p : Process) (call : Call) (res : Res) (s' : State) (b : Bool) → answers_from_outside p call res ≡ b
     → (if b then Goes s else told_rules res (ruling w s p call (told_child res)) (own w s p call)) ≡ Goes s'
     → Answers w s p call res s'
-call_gives w s p call res s' true outside goes = inl (record { outside = outside; state = goes_same s s' goes })
+call_gives w s p call res s' true outside goes =
+    inl (record { outside = (and_parts (permits p.filter (kind_of call)) (comes_from_outside call res) outside).1; state = goes_same s s' goes })
 call_gives w s p call res s' false inside goes =
-    inr (rules_give w s p call res s' inside (same_res res (ruling w s p call (told_child res)).res) refl goes)
+    inr (rules_give w s p call res s' (same_res res (ruling w s p call (told_child res)).res) refl goes)
 
 -- a live caller's step, by the tests for a space that doesn't stand and for a pid in use
 caller_gives : (w : World) (s : State) (p : Process) (e : Event) (s' : State) → process_at s.processes e.pid ≡ Some p
@@ -83,7 +93,7 @@ caller_gives : (w : World) (s : State) (p : Process) (e : Event) (s' : State) �
     → (if a then NoSpace else if b then PidInUse else told_call w s p e.call e.res) ≡ Goes s'
     → Stepped w s e s'
 caller_gives w s p e s' lives false false spaces child goes =
-    record { caller = p; lives = lives; spaces = spaces; child = child; answers = call_gives w s p e.call e.res s' (comes_from_outside e.call e.res) refl goes }
+    record { caller = p; lives = lives; spaces = spaces; child = child; answers = call_gives w s p e.call e.res s' (answers_from_outside p e.call e.res) refl goes }
 caller_gives w s p e s' lives true b spaces child wrong = absurd (cc)
 caller_gives w s p e s' lives false true spaces child wrong = absurd (cc)
 

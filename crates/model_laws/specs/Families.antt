@@ -62,16 +62,18 @@ unfoldable pub ChildrenAreMembers : Type 0
 ChildrenAreMembers = (w : World) (s : State) (e : Event) (s' : State) (members : List ℕ) (child : ℕ) → Step w s e s' → e.res ≡ Child child
     → IsTrue (is_member (members_after members e.pid e.call e.res) child) × IsTrue (is_alive s'.processes child)
 
--- What stays of a process that isn't a member: it lives, with its space and its credential, and is no member.
+-- What stays of a process that isn't a member: it lives, with its space, its credential and its filter, and is no
+-- member.
 pub record StaysOutside (pid : ℕ) (p : Process) (s' : State) (members' : List ℕ) : Type 0 where
   pub process : Process
   pub lives : process_at s'.processes pid ≡ Some process
   pub space : process.space ≡ p.space
   pub cred : process.cred ≡ p.cred
+  pub filter : process.filter ≡ p.filter
   pub outside : is_member members' pid ≡ false
 
--- In a later run whoever isn't a member keeps its space and its credential, and doesn't become one. Its forebear may
--- change, by the exit of a member.
+-- In a later run whoever isn't a member keeps its space, its credential and its filter, and doesn't become one. Its
+-- forebear may change, by the exit of a member.
 unfoldable pub OthersStay : Type 0
 OthersStay = (permitted : CallKind → Bool) (w : World) (s : State) (members : List ℕ) (es : List Event) (s' : State) (members' : List ℕ) (pid : ℕ) (p : Process)
     → Later permitted w s members es s' members' → process_at s.processes pid ≡ Some p → is_member members pid ≡ false

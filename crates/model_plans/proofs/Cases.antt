@@ -1,5 +1,5 @@
 -- Worked cases: what is found in small worlds, under the world's own filter.
-use Rattle.std.proofs.Common.{◌≡◌, ℕ, ◌==◌, not, true, List, [], ◌∷◌, Option, None, Some, refl, codes}
+use Rattle.std.proofs.Common.{◌≡◌, ℕ, true, List, [], ◌∷◌, Option, None, Some, refl, codes}
 use Rattle.cm_base.specs.CapSet.{none, full}
 use Rattle.cm_base.specs.declared.res.FileRef.TheVariants.{Row}
 use Rattle.cm_filter.specs.Filters.{permits}
@@ -16,7 +16,7 @@ use Rattle.model_plans.specs.PlanRun.{Found, first_found}
 
 -- what is found under the world's own filter
 abbrev found : World → State → List ℕ → Right → Option Found
-found w s members right = first_found (λ pid. permits w.filter) w s members right
+found w s members right = first_found (permits w.filter) w s members right
 
 -- what is found by process 100, where it is alone
 abbrev found_alone : World → Credential → Right → Option Found
@@ -83,6 +83,22 @@ pub owned_space : record {
 unfolding first_found
 owned_space = search
 
+-- ---- the same where the process installed the filter
+abbrev installed : ℕ → State
+installed filter = record owned {
+  processes = record (process 100 (record (user 1000)
+      { uid = record (all_four 1000) { saved = 500 }; no_new_privs = true })) { filter = filter } ∷ [];
+}
+
+pub installed_filters : record {
+  an_installed_filter_leaves_setreuid : found world (installed 0x1c0004) (100 ∷ []) (Cap 5 1)
+      ≡ Some (record { run = done 100 (SetReUid minus_one 500) ∷ []; holder = 100 });
+  an_installed_filter_leaves_none_of_the_three : found world (installed 0x1c0007) (100 ∷ []) (Cap 5 1) ≡ None;
+  both_filters_count : found (filtered 0x3) (installed 0x1c0004) (100 ∷ []) (Cap 5 1) ≡ None;
+}
+unfolding first_found
+installed_filters = search
+
 -- ---- two members of which one may run a set-user-ID-root program and the other would gain by it
 abbrev opt_x : FileRow
 opt_x = record file { path = codes "/opt/x"; gid = 34; mode = 0o4010 }
@@ -115,6 +131,10 @@ who_holds_it_needs_no_call = refl
 abbrev three : State
 three = with_processes (process 5 (user 1000) ∷ process 6 (user 0) ∷ process 7 (user 0) ∷ [])
 
+abbrev one_is_filtered : State
+one_is_filtered =
+    with_processes (process 5 (user 1000) ∷ record (process 6 (user 0)) { filter = 0x7 } ∷ process 7 (user 0) ∷ [])
+
 pub least_holders : record {
   the_least_holder_is_named : found world three (5 ∷ 6 ∷ 7 ∷ []) (Uid 0) ≡ Some (record { run = []; holder = 6 });
   -- who isn't a member doesn't count
@@ -125,8 +145,8 @@ pub least_holders : record {
   the_first_member_that_finds_something_is_taken : found world three (5 ∷ 6 ∷ 7 ∷ []) (Uid 9)
       ≡ Some
       (record { run = done 6 (SetResUid minus_one 9 minus_one) ∷ done 6 (CapSet full full none) ∷ []; holder = 6 });
-  -- what is permitted may depend on the member
-  another_member_does_where_one_may_not : first_found (λ pid kind. not (pid == 6)) world three (5 ∷ 6 ∷ 7 ∷ []) (Uid 9)
+  -- a member's own filter binds it alone
+  another_member_does_where_one_may_not : found world one_is_filtered (5 ∷ 6 ∷ 7 ∷ []) (Uid 9)
       ≡ Some
       (record { run = done 7 (SetResUid minus_one 9 minus_one) ∷ done 7 (CapSet full full none) ∷ []; holder = 7 });
 }

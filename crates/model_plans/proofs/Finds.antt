@@ -1,12 +1,12 @@
 -- What is found: by which plan, and that it is a later run after which its holder has the right.
-use Rattle.std.proofs.Common.{◌≡◌, ℕ, List, Option, None, Some, option_map, sym, ap, ◌∙◌, subst}
+use Rattle.std.proofs.Common.{Bool, ◌≡◌, ℕ, List, Option, None, Some, option_map, sym, ap, ◌∙◌, subst}
 use Rattle.std.specs.Prelude.{All}
 use Rattle.std.proofs.lemmas.List.Elements.{All-weaker}
+use Rattle.cm_filter.specs.declared.kind.CallKind.{CallKind}
 use Rattle.model_cred.specs.Call.{Event}
 use Rattle.model_cred.specs.Process.{State}
 use Rattle.model_cred.specs.Right.{Right}
 use Rattle.model_cred.specs.World.{World}
-use Rattle.model_plans.specs.Move.{MayCall}
 use Rattle.model_plans.specs.Plan.{Plan, plans}
 use Rattle.model_plans.specs.PlanRun.{PlanRun, plan_run, holder, Found, found_by, first_found}
 use Rattle.model_plans.specs.Changes.{MovesLeaveOthers, IsLater}
@@ -17,7 +17,7 @@ use Rattle.model_plans.proofs.Holders.{no_holder, holder_holds}
 use Rattle.model_plans.proofs.Laters.{runs_later}
 
 -- ---- what a run finds
-module _ (permitted : MayCall) (w : World) (s : State) (members : List ℕ) (right : Right) where
+module _ (permitted : CallKind → Bool) (w : World) (s : State) (members : List ℕ) (right : Right) where
   abbrev made_by : Plan → PlanRun
   made_by plan = plan_run permitted w s right plan
 

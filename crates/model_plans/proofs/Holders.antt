@@ -4,6 +4,7 @@ use Rattle.std.proofs.Common.{Option, None, Some, if◌then◌else◌, refl, sym
 use Rattle.std.specs.Prelude.{find, All}
 use Rattle.std.proofs.lemmas.Bool.{cases_Bool, cases_eq, cond-true, cond-false, eqb-true, eq-eqb, or_cases, or_left, or_right}
 use Rattle.std.proofs.lemmas.List.Elements.{All-head, All-tail, All-cons, All-nil, All-filter, All-weaker}
+use Rattle.cm_filter.specs.declared.kind.CallKind.{CallKind}
 use Rattle.model_cred.proofs.Orders.{AscendsFrom, ascends_forth}
 use Rattle.model_cred.specs.Process.{Process, State, process_at, is_alive}
 use Rattle.model_cred.specs.Right.{Right}
@@ -11,7 +12,7 @@ use Rattle.model_cred.specs.World.{World}
 use Rattle.model_run.specs.Family.{reaches}
 use Rattle.model_run.specs.Holds.{process_holds, holds_for}
 use Rattle.model_run.specs.Later.{is_member}
-use Rattle.model_plans.specs.Move.{MayCall, Seat, seat_of, Move}
+use Rattle.model_plans.specs.Move.{Seat, seat_of, Move}
 use Rattle.model_plans.specs.PlanRun.{PlanRun, setting_in, moves_made, holder}
 use Rattle.model_plans.specs.Walk.{after_moves, seat_holds}
 use Rattle.model_plans.specs.Changes.{moved, with_seat}
@@ -230,14 +231,14 @@ mover_decides_seated s members right pid p seat lives member none =
     ∙ none_passes (λ n. process_holds s n right) members none other it)
     ∙ ap (λ (o : Option Process). if holds_for s.spaces o right then Some pid else None) (found_seated s pid p seat lives)
 
-pub mover_holds : (permitted : MayCall) (w : World) (s : State) (members : List ℕ) (right : Right) (pid : ℕ) (p : Process) (moves : List Move)
+pub mover_holds : (permitted : CallKind → Bool) (w : World) (s : State) (members : List ℕ) (right : Right) (pid : ℕ) (p : Process) (moves : List Move)
     → process_at s.processes pid ≡ Some p → is_member members pid ≡ true → holder s members right ≡ None
     → holder (moves_made permitted w s right pid moves).state members right
-    ≡ (if seat_holds (setting_in permitted w s right pid) (after_moves (setting_in permitted w s right pid) (seat_of p) moves)
+    ≡ (if seat_holds (setting_in permitted w s right p) (after_moves (setting_in permitted w s right p) (seat_of p) moves)
     then Some pid else None)
 mover_holds permitted w s members right pid p moves lives member none =
     ap (λ (made : PlanRun). holder made.state members right) (walk_run permitted w s right pid p moves lives)
-    ∙ mover_decides_seated s members right pid p (after_moves (setting_in permitted w s right pid) (seat_of p) moves) lives member none
+    ∙ mover_decides_seated s members right pid p (after_moves (setting_in permitted w s right p) (seat_of p) moves) lives member none
 
 pub mover_decides : MoverDecides
 unfolding MoverDecides

@@ -1,8 +1,9 @@
--- What is found depends on the spaces and on the members' own seats alone.
+-- What is found depends on the spaces and on the members' own seats and filters alone.
 use Rattle.std.proofs.Common.{◌≡◌, ℕ, Bool, true, false, List, [], ◌∷◌, Option, None, Some, option_map, if◌then◌else◌, refl, sym, ap, ◌∙◌}
 use Rattle.std.specs.Prelude.{find, All}
 use Rattle.std.specs.Option.{option_or}
 use Rattle.std.proofs.lemmas.List.Elements.{All-head, All-tail, All-weaker}
+use Rattle.cm_filter.specs.Filters.{Filter}
 use Rattle.cm_filter.specs.declared.kind.CallKind.{CallKind}
 use Rattle.model_cred.specs.Process.{Process, State, process_at}
 use Rattle.model_cred.specs.Right.{Right}
@@ -10,8 +11,9 @@ use Rattle.model_cred.specs.Space.{Spaces}
 use Rattle.model_cred.specs.World.{World}
 use Rattle.model_run.specs.Holds.{process_holds, holds_right, holds_for}
 use Rattle.model_run.specs.Later.{is_member}
-use Rattle.model_plans.specs.Move.{MayCall, Seat, seat_of, Setting}
-use Rattle.model_plans.specs.PlanRun.{setting_in, Found}
+use Rattle.model_run.specs.Own.{filter_in, filter_of, permitted_under}
+use Rattle.model_plans.specs.Move.{Seat, seat_of, Setting}
+use Rattle.model_plans.specs.PlanRun.{Found}
 use Rattle.model_plans.specs.Walk.{found_at, found_for, found_among, found_now, walked}
 use Rattle.model_plans.specs.Firsts.{WalkFindsTheSame}
 use Rattle.model_plans.specs.Shortcuts.{AreSeatedAlike, MembersSeatsDecide}
@@ -42,14 +44,18 @@ found_seat : Setting → ℕ → Option Seat → Option Found
 found_seat q pid None = None
 found_seat q pid (Some seat) = found_at q pid seat
 
-found_by_seat : (permitted : MayCall) (w : World) (s : State) (right : Right) (pid : ℕ) (o : Option Process)
-    → found_for permitted w s right pid o ≡ found_seat (setting_in permitted w s right pid) pid (option_map seat_of o)
+-- the setting under a filter
+abbrev under : (CallKind → Bool) → World → Spaces → Right → Filter → Setting
+under permitted w spaces right filter = record { files = w.files; spaces = spaces; permitted = permitted_under filter permitted; right = right }
+
+found_by_seat : (permitted : CallKind → Bool) (w : World) (s : State) (right : Right) (pid : ℕ) (o : Option Process)
+    → found_for permitted w s right pid o ≡ found_seat (under permitted w s.spaces right (filter_in o)) pid (option_map seat_of o)
 unfolding found_seat
 found_by_seat permitted w s right pid None = refl
 found_by_seat permitted w s right pid (Some p) = refl
 
-module _ (permitted other : MayCall) (w : World) (s t : State) (members : List ℕ) (right : Right) (same : s.spaces ≡ t.spaces)
-    (alike : AreSeatedAlike permitted other s t members) where
+module _ (permitted : CallKind → Bool) (w : World) (s t : State) (members : List ℕ) (right : Right) (same : s.spaces ≡ t.spaces)
+    (alike : AreSeatedAlike s t members) where
   holds_alike : (pid : ℕ) → is_member members pid ≡ true → process_holds s pid right ≡ process_holds t pid right
   holds_alike pid member =
       holds_by_seat s.spaces right (process_at s.processes pid)
@@ -58,17 +64,16 @@ module _ (permitted other : MayCall) (w : World) (s t : State) (members : List �
       ∙ sym (holds_by_seat t.spaces right (process_at t.processes pid))
 
   found_alike : (pid : ℕ) → is_member members pid ≡ true
-      → found_for permitted w s right pid (process_at s.processes pid) ≡ found_for other w t right pid (process_at t.processes pid)
+      → found_for permitted w s right pid (process_at s.processes pid) ≡ found_for permitted w t right pid (process_at t.processes pid)
   found_alike pid member =
       found_by_seat permitted w s right pid (process_at s.processes pid)
-      ∙ ap (found_seat (setting_in permitted w s right pid) pid) (alike pid member).0
-      ∙ ap (λ (spaces : Spaces). found_seat (record { files = w.files; spaces = spaces; permitted = permitted pid; right = right }) pid
-      (option_map seat_of (process_at t.processes pid))) same
-      ∙ ap (λ (may : CallKind → Bool). found_seat (record { files = w.files; spaces = t.spaces; permitted = may; right = right }) pid
-      (option_map seat_of (process_at t.processes pid))) (λ i kind. (alike pid member).1 kind i)
-      ∙ sym (found_by_seat other w t right pid (process_at t.processes pid))
+      ∙ ap (found_seat (under permitted w s.spaces right (filter_of s pid)) pid) (alike pid member).0
+      ∙ ap (λ (spaces : Spaces). found_seat (under permitted w spaces right (filter_of s pid)) pid (option_map seat_of (process_at t.processes pid))) same
+      ∙ ap (λ (filter : Filter). found_seat (under permitted w t.spaces right filter) pid (option_map seat_of (process_at t.processes pid)))
+      (alike pid member).1
+      ∙ sym (found_by_seat permitted w t right pid (process_at t.processes pid))
 
-  walked_alike : walked permitted w s members right ≡ walked other w t members right
+  walked_alike : walked permitted w s members right ≡ walked permitted w t members right
   unfolding walked
   walked_alike =
       let now : found_now s members right ≡ found_now t members right
@@ -76,17 +81,17 @@ module _ (permitted other : MayCall) (w : World) (s t : State) (members : List �
       (find_same (λ pid. process_holds s pid right) (λ pid. process_holds t pid right) members
       (All-weaker (λ pid. is_member members pid ≡ true) (λ pid. process_holds s pid right ≡ process_holds t pid right) holds_alike members
       (all_members members))) in
-      let moved : found_among permitted w s right members ≡ found_among other w t right members
+      let moved : found_among permitted w s right members ≡ found_among permitted w t right members
       = first_same (λ pid. found_for permitted w s right pid (process_at s.processes pid))
-      (λ pid. found_for other w t right pid (process_at t.processes pid)) members
+      (λ pid. found_for permitted w t right pid (process_at t.processes pid)) members
       (All-weaker (λ pid. is_member members pid ≡ true)
-      (λ pid. found_for permitted w s right pid (process_at s.processes pid) ≡ found_for other w t right pid (process_at t.processes pid))
+      (λ pid. found_for permitted w s right pid (process_at s.processes pid) ≡ found_for permitted w t right pid (process_at t.processes pid))
       found_alike members (all_members members)) in
       ap (λ o. option_or o (found_among permitted w s right members)) now ∙ ap (option_or (found_now t members right)) moved
 
 pub members_seats_decide : MembersSeatsDecide
 unfolding MembersSeatsDecide WalkFindsTheSame
-members_seats_decide permitted other w s t members right same alike =
+members_seats_decide permitted w s t members right same alike =
     walk_finds_the_same permitted w s members right
-    ∙ walked_alike permitted other w s t members right same alike
-    ∙ sym (walk_finds_the_same other w t members right)
+    ∙ walked_alike permitted w s t members right same alike
+    ∙ sym (walk_finds_the_same permitted w t members right)

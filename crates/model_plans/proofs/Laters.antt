@@ -1,13 +1,15 @@
 -- The runs of plans are later runs of the members.
 use Rattle.std.proofs.Common.{◌≡◌, ℕ, ◌<◌, ◌==◌, not, Bool, true, false, List, [], ◌∷◌, ◌++◌, map, filter, length}
-use Rattle.std.proofs.Common.{Option, None, Some, refl, sym, ap, subst, arith}
+use Rattle.std.proofs.Common.{Option, None, Some, refl, sym, ap, ◌∙◌, subst, arith}
 use Rattle.std.specs.Prelude.{All, slice_get}
-use Rattle.std.proofs.lemmas.Bool.{lt-ltb}
+use Rattle.std.proofs.lemmas.Bool.{lt-ltb, and_parts}
+use Rattle.cm_filter.specs.Filters.{permits}
 use Rattle.std.specs.List.{flat_map}
 use Rattle.std.proofs.lemmas.List.Elements.{All-cons, All-nil, All-append, All-map, All-filter, All-take, All-weaker}
 use Rattle.cm_base.specs.declared.res.Res.{Res}
 use Rattle.cm_base.specs.declared.res.Res.TheVariants.{Child}
 use Rattle.cm_base.specs.declared.res.FileRef.TheVariants.{Plain}
+use Rattle.cm_filter.specs.declared.kind.CallKind.{CallKind}
 use Rattle.model_cred.specs.Call.{Call, Event, Exit, kind_of}
 use Rattle.model_cred.specs.Files.{FileTable, IsDeclared}
 use Rattle.model_cred.specs.Process.{Process, State, process_at}
@@ -15,11 +17,12 @@ use Rattle.model_cred.specs.Right.{Right, Cap, Uid, Gid}
 use Rattle.model_cred.specs.Space.{Spaces, stands}
 use Rattle.model_cred.specs.World.{World}
 use Rattle.model_run.specs.Later.{Later, is_member, members_after, members_with}
+use Rattle.model_run.specs.Own.{filter_in, permitted_under}
 use Rattle.model_run.specs.Ruling.{Ruling, own}
 use Rattle.model_run.specs.Step.{names_no_space}
 use Rattle.model_laws.proofs.Owning.{own_step}
 use Rattle.model_laws.proofs.Results.{IsRuled, reply_plain}
-use Rattle.model_plans.specs.Move.{MayCall, seat_of, Setting, Move, Raise, BecomeZero, BecomeSought, BecomeGroup}
+use Rattle.model_plans.specs.Move.{seat_of, Setting, Move, Raise, BecomeZero, BecomeSought, BecomeGroup}
 use Rattle.model_plans.specs.Move.{TakeGroup}
 use Rattle.model_plans.specs.Move.{RunFile, JoinSpace, call_of}
 use Rattle.model_plans.specs.Plan.{Choice, Plan, numbers, is_special, most_special, special_rows, run_row, run_two}
@@ -63,50 +66,50 @@ join_stands files spaces (JoinSpace n) there = there
 join_stands files spaces _ there = tt
 
 -- what is made is a later run of the members, after which they are the same
-abbrev Goes : MayCall → World → State → List ℕ → ℕ → PlanRun → Type 0
-Goes permitted w s members pid made = Later (permitted pid) w s members made.events made.state members
+abbrev Goes : (CallKind → Bool) → World → State → List ℕ → ℕ → PlanRun → Type 0
+Goes permitted w s members pid made = Later permitted w s members made.events made.state members
 
 -- an optional call, and more moves, of which this is known already
-later_call : (permitted : MayCall) (w : World) (s : State) (right : Right) (members : List ℕ) (pid : ℕ) (p : Process) (moves : List Move)
+later_call : (permitted : CallKind → Bool) (w : World) (s : State) (right : Right) (members : List ℕ) (pid : ℕ) (p : Process) (moves : List Move)
     (o : Option Call) → process_at s.processes pid ≡ Some p → is_member members pid ≡ true
     → ((call : Call) → o ≡ Some call
-    → (changes_caller_alone call ≡ true) × (permitted pid (kind_of call) ≡ true) × (names_no_space s.spaces call ≡ false))
+    → (changes_caller_alone call ≡ true) × (permitted_under p.filter permitted (kind_of call) ≡ true) × (names_no_space s.spaces call ≡ false))
     → ((t : State) → t.spaces ≡ s.spaces → Goes permitted w t members pid (moves_made permitted w t right pid moves))
     → Goes permitted w s members pid (then_made permitted w right pid (call_made w s pid p o) moves)
 later_call permitted w s right members pid p moves None lives member plain rest = rest s refl
 later_call permitted w s right members pid p moves (Some call) lives member plain rest =
-    let is : (changes_caller_alone call ≡ true) × (permitted pid (kind_of call) ≡ true) ×
-    (names_no_space s.spaces call ≡ false) = plain call refl in
+    let is : (changes_caller_alone call ≡ true) × (permitted_under p.filter permitted (kind_of call) ≡ true)
+    × (names_no_space s.spaces call ≡ false) = plain call refl in
     let r : Ruling = own w s p call in
     let e : Event = record { pid = pid; call = call; res = r.res } in
-    let alone = own_alone w s p call is.0 in
+    let alone = own_alone w s p call (is.0, (and_parts (permitted (kind_of call)) (permits p.filter (kind_of call)) is.1).1) in
     let ruled : IsRuled r.res
     = subst IsRuled (sym (ap (λ (x : Ruling). x.res) alone)) (reply_plain w.files s.spaces p.space p.cred call).ruled in
     let made : PlanRun = moves_made permitted w r.state right pid moves in (
       r.state,
       member,
-      is.1,
+      ap (λ (o : Option Process). permitted_under (filter_in o) permitted (kind_of call)) lives ∙ is.1,
       own_step w s e p lives is.2 refl,
-      subst (λ (ms : List ℕ). Later (permitted pid) w r.state ms made.events made.state members)
+      subst (λ (ms : List ℕ). Later permitted w r.state ms made.events made.state members)
           (sym (alone_members members pid call r.res is.0 ruled))
           (rest r.state (ap (λ (x : Ruling). x.state.spaces) alone)),
     )
 
 -- a move of an optional process, and more moves, of which this is known already
-later_move : (permitted : MayCall) (w : World) (s : State) (right : Right) (members : List ℕ) (pid : ℕ) (o : Option Process) (move : Move)
+later_move : (permitted : CallKind → Bool) (w : World) (s : State) (right : Right) (members : List ℕ) (pid : ℕ) (o : Option Process) (move : Move)
     (moves : List Move) → process_at s.processes pid ≡ o → is_member members pid ≡ true → JoinStands s.spaces move
     → ((t : State) → t.spaces ≡ s.spaces → Goes permitted w t members pid (moves_made permitted w t right pid moves))
     → Goes permitted w s members pid (then_made permitted w right pid (move_made permitted w s right pid o move) moves)
 later_move permitted w s right members pid None move moves lives member there rest = rest s refl
 later_move permitted w s right members pid (Some p) move moves lives member there rest =
-    let q : Setting = setting_in permitted w s right pid in
+    let q : Setting = setting_in permitted w s right p in
     later_call permitted w s right members pid p moves (call_of q (seat_of p) move) lives member
     (λ call is.
-    let plain : (changes_caller_alone call ≡ true) × (permitted pid (kind_of call) ≡ true) =
+    let plain : (changes_caller_alone call ≡ true) × (permitted_under p.filter permitted (kind_of call) ≡ true) =
     call_plain q (seat_of p) move call is in
     (plain.0, plain.1, call_named q (seat_of p) move call there is)) rest
 
-later_moves : (permitted : MayCall) (w : World) (s : State) (right : Right) (members : List ℕ) (pid : ℕ) (moves : List Move)
+later_moves : (permitted : CallKind → Bool) (w : World) (s : State) (right : Right) (members : List ℕ) (pid : ℕ) (moves : List Move)
     → is_member members pid ≡ true → MovesStand w.files s.spaces moves
     → Goes permitted w s members pid (moves_made permitted w s right pid moves)
 later_moves permitted w s right members pid [] member stand = (refl, refl)
@@ -117,7 +120,7 @@ later_moves permitted w s right members pid (move ∷ moves) member stand =
     (subst (λ (spaces : Spaces). MovesStand w.files spaces moves) (sym same) stand.1))
 
 -- each event is of the one who moves
-made_by : (permitted : MayCall) (w : World) (s : State) (right : Right) (pid : ℕ) (moves : List Move)
+made_by : (permitted : CallKind → Bool) (w : World) (s : State) (right : Right) (pid : ℕ) (moves : List Move)
     → All (λ (e : Event). e.pid ≡ pid) (moves_made permitted w s right pid moves).events
 made_by permitted w s right pid [] = All-nil (λ (e : Event). e.pid ≡ pid)
 made_by permitted w s right pid (move ∷ moves) =
@@ -135,9 +138,9 @@ made_by permitted w s right pid (move ∷ moves) =
     by_process : (o : Option Process)
         → All (λ (e : Event). e.pid ≡ pid) (move_made permitted w s right pid o move).events
     by_process None = All-nil (λ (e : Event). e.pid ≡ pid)
-    by_process (Some p) = by_call p (call_of (setting_in permitted w s right pid) (seat_of p) move)
+    by_process (Some p) = by_call p (call_of (setting_in permitted w s right p) (seat_of p) move)
 
-later_run : (permitted : MayCall) (w : World) (s : State) (right : Right) (members : List ℕ) (pid : ℕ) (moves : List Move)
+later_run : (permitted : CallKind → Bool) (w : World) (s : State) (right : Right) (members : List ℕ) (pid : ℕ) (moves : List Move)
     → is_member members pid ≡ true → MovesStand w.files s.spaces moves
     → IsLater permitted w s members pid (moves_made permitted w s right pid moves)
 later_run permitted w s right members pid moves member stand = record {
@@ -256,7 +259,7 @@ all_plans P w s members right without holds =
     (λ pid member. by_process pid member (process_at s.processes pid))
     members (all_members members)))
 
-pub runs_later : (permitted : MayCall) (w : World) (s : State) (members : List ℕ) (right : Right)
+pub runs_later : (permitted : CallKind → Bool) (w : World) (s : State) (members : List ℕ) (right : Right)
     → All (λ plan. IsLater permitted w s members plan.pid (plan_run permitted w s right plan)) (plans w s members right)
 runs_later permitted w s members right =
     all_plans (λ plan. IsLater permitted w s members plan.pid (plan_run permitted w s right plan)) w s members right

@@ -97,7 +97,7 @@ counts_of_plans = search
 -- ---- what moves make
 -- by process 100, alone in the initial space
 abbrev made : World → Credential → Right → List Move → PlanRun
-made w c right moves = moves_made (λ pid. permits w.filter) w (one c) right 100 moves
+made w c right moves = moves_made (permits w.filter) w (one c) right 100 moves
 
 pub made_moves : record {
   -- a refused move stays in the run, with its refusal

@@ -4,13 +4,14 @@ use Rattle.std.proofs.Common.{if◌then◌else◌, refl, sym, ap, ◌∙◌}
 use Rattle.std.specs.List.{flat_map}
 use Rattle.std.specs.Option.{option_or}
 use Rattle.std.proofs.lemmas.List.Elements.{All-weaker}
+use Rattle.cm_filter.specs.declared.kind.CallKind.{CallKind}
 use Rattle.model_cred.specs.Files.{FileTable}
 use Rattle.model_cred.specs.Process.{Process, State, process_at}
 use Rattle.model_cred.specs.Right.{Right}
 use Rattle.model_cred.specs.Space.{Spaces}
 use Rattle.model_cred.specs.World.{World}
 use Rattle.model_run.specs.Later.{is_member}
-use Rattle.model_plans.specs.Move.{MayCall, Seat, seat_of, Setting, Move, Raise}
+use Rattle.model_plans.specs.Move.{Seat, seat_of, Setting, Move, Raise}
 use Rattle.model_plans.specs.Plan.{Choice, Plan, first_choices, middle_choices, last_choices, then_raise, moves_of, plan_of, plans_in, plans_for}
 use Rattle.model_plans.specs.PlanRun.{setting_in, moves_made, plan_run, holder, Found, found_by, first_some, first_found}
 use Rattle.model_plans.specs.Walk.{after_moves, events_of, seat_holds, last_found, middle_found, moves_from, moves_found, found_for}
@@ -103,7 +104,7 @@ map_if : {A B : Type 0} (h : A → B) (b : Bool) (x : A) → option_map h (if b 
 map_if h true x = refl
 map_if h false x = refl
 
-module _ (permitted : MayCall) (w : World) (s : State) (members : List ℕ) (right : Right) where
+module _ (permitted : CallKind → Bool) (w : World) (s : State) (members : List ℕ) (right : Right) where
   -- what a plan finds
   abbrev tried : Plan → Option Found
   tried plan = found_by members right (plan_run permitted w s right plan)
@@ -111,9 +112,9 @@ module _ (permitted : MayCall) (w : World) (s : State) (members : List ℕ) (rig
   -- where no member holds the right already, a run of a member's moves finds what its seat finds
   run_finds : (pid : ℕ) (p : Process) (moves : List Move) → process_at s.processes pid ≡ Some p → is_member members pid ≡ true
       → holder s members right ≡ None
-      → found_by members right (moves_made permitted w s right pid moves) ≡ found_if (setting_in permitted w s right pid) pid (seat_of p) moves
+      → found_by members right (moves_made permitted w s right pid moves) ≡ found_if (setting_in permitted w s right p) pid (seat_of p) moves
   run_finds pid p moves lives member none =
-      let q : Setting = setting_in permitted w s right pid in
+      let q : Setting = setting_in permitted w s right p in
       let seat : Seat = after_moves q (seat_of p) moves in
       ap (found_by members right) (walk_run permitted w s right pid p moves lives)
       ∙ ap (option_map (λ n. record { run = events_of q pid (seat_of p) moves; holder = n }))
@@ -126,7 +127,7 @@ module _ (permitted : MayCall) (w : World) (s : State) (members : List ℕ) (rig
   unfolding moves_found
   member_finds pid None lives member none = refl
   member_finds pid (Some p) lives member none =
-      let q : Setting = setting_in permitted w s right pid in
+      let q : Setting = setting_in permitted w s right p in
       let middles : List Choice = middle_choices w.files s.spaces p.space in
       let lasts : List Choice = last_choices right in
       flat_choices tried w.files s.spaces right pid p.space

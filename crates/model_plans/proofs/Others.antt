@@ -4,12 +4,13 @@ use Rattle.std.proofs.Common.{Option, None, Some, if◌then◌else◌, refl, sym
 use Rattle.std.specs.Prelude.{is_some}
 use Rattle.std.proofs.lemmas.Bool.{cases_Bool, cases_eq, cond-true, cond-false, eqb-true}
 use Rattle.std.proofs.lemmas.List.{length-map}
+use Rattle.cm_filter.specs.declared.kind.CallKind.{CallKind}
 use Rattle.model_cred.proofs.Lookups.{pid_of_found, at_put_other}
 use Rattle.model_cred.specs.Process.{Process, State, process_at, put_process, is_alive}
 use Rattle.model_cred.specs.Right.{Right}
 use Rattle.model_cred.specs.World.{World}
 use Rattle.model_run.specs.Family.{family, forebear_in, forebear_of, reaches, reaches_within}
-use Rattle.model_plans.specs.Move.{MayCall, Seat, seat_of, Move}
+use Rattle.model_plans.specs.Move.{Seat, seat_of, Move}
 use Rattle.model_plans.specs.PlanRun.{PlanRun, setting_in, moves_made}
 use Rattle.model_plans.specs.Walk.{after_moves}
 use Rattle.model_plans.specs.Changes.{moved, with_seat, Leaves, MovesLeaveOthers}
@@ -91,13 +92,13 @@ leaves_seated s pid p seat lives = record {
 leaves_all : (s : State) (pid : ℕ) → Leaves s pid s
 leaves_all s pid = record { spaces = refl; others = λ other apart. refl; families = λ root. refl }
 
-leaves_run : (permitted : MayCall) (w : World) (s : State) (right : Right) (pid : ℕ) (moves : List Move) (o : Option Process)
+leaves_run : (permitted : CallKind → Bool) (w : World) (s : State) (right : Right) (pid : ℕ) (moves : List Move) (o : Option Process)
     → process_at s.processes pid ≡ o → Leaves s pid (moves_made permitted w s right pid moves).state
 leaves_run permitted w s right pid moves None dead =
     subst (λ (made : PlanRun). Leaves s pid made.state) (sym (dead_run permitted w s right pid moves dead)) (leaves_all s pid)
 leaves_run permitted w s right pid moves (Some p) lives =
     subst (λ (made : PlanRun). Leaves s pid made.state) (sym (walk_run permitted w s right pid p moves lives))
-    (leaves_seated s pid p (after_moves (setting_in permitted w s right pid) (seat_of p) moves) lives)
+    (leaves_seated s pid p (after_moves (setting_in permitted w s right p) (seat_of p) moves) lives)
 
 pub moves_leave_others : MovesLeaveOthers
 unfolding MovesLeaveOthers

@@ -1,10 +1,11 @@
 -- First moves are shared: by the machine and on a seat, moves after others go on from where those end.
-use Rattle.std.proofs.Common.{◌≡◌, ℕ, List, [], ◌∷◌, ◌++◌, refl, sym, ap, ◌∙◌, append_assoc}
+use Rattle.std.proofs.Common.{Bool, ◌≡◌, ℕ, List, [], ◌∷◌, ◌++◌, refl, sym, ap, ◌∙◌, append_assoc}
+use Rattle.cm_filter.specs.declared.kind.CallKind.{CallKind}
 use Rattle.model_cred.specs.Call.{Event}
 use Rattle.model_cred.specs.Process.{State, process_at}
 use Rattle.model_cred.specs.Right.{Right}
 use Rattle.model_cred.specs.World.{World}
-use Rattle.model_plans.specs.Move.{MayCall, Seat, Setting, Move, call_of}
+use Rattle.model_plans.specs.Move.{Seat, Setting, Move, call_of}
 use Rattle.model_plans.specs.PlanRun.{PlanRun, move_made, moves_made}
 use Rattle.model_plans.specs.Walk.{event_of, after, after_moves, events_of}
 use Rattle.model_plans.specs.Shortcuts.{then_made, FirstMovesAreShared}
@@ -21,7 +22,7 @@ events_append q pid seat (move ∷ moves) more =
     ap (λ es. here ++ es) (events_append q pid (after q seat move) moves more)
     ∙ sym (append_assoc here (events_of q pid (after q seat move) moves) (events_of q pid (after_moves q (after q seat move) moves) more))
 
-run_append : (permitted : MayCall) (w : World) (s : State) (right : Right) (pid : ℕ) (moves more : List Move)
+run_append : (permitted : CallKind → Bool) (w : World) (s : State) (right : Right) (pid : ℕ) (moves more : List Move)
     → moves_made permitted w s right pid (moves ++ more) ≡ then_made permitted w right pid (moves_made permitted w s right pid moves) more
 run_append permitted w s right pid [] more = refl
 run_append permitted w s right pid (move ∷ moves) more =

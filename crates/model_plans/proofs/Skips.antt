@@ -1,7 +1,8 @@
 -- What a walk may leave out: choices that leave the seat where an earlier one left it, and members like earlier ones.
-use Rattle.std.proofs.Common.{◌≡◌, ℕ, Bool, [], ◌∷◌, ◌++◌, Option, None, Some, option_map, refl, sym, ap, ◌∙◌}
+use Rattle.std.proofs.Common.{◌≡◌, ℕ, [], ◌∷◌, ◌++◌, Option, None, Some, option_map, refl, sym, ap, ◌∙◌}
 use Rattle.std.proofs.lemmas.List.Elements.{All-cons, All-nil}
-use Rattle.cm_filter.specs.declared.kind.CallKind.{CallKind}
+use Rattle.cm_filter.specs.Filters.{Filter}
+use Rattle.model_run.specs.Own.{permitted_under}
 use Rattle.model_cred.specs.Call.{Call}
 use Rattle.model_cred.specs.Process.{process_at}
 use Rattle.model_plans.specs.Move.{Seat, seat_of, Setting, Move, Raise, BecomeZero, BecomeSought, JoinSpace, call_of}
@@ -41,25 +42,24 @@ middle_choices_tried_before q seat earlier later middle any =
 
 -- ---- members
 -- where a seat finds nothing, one like it finds nothing, whoever is there
-none_alike : (permitted : CallKind → Bool) (q : Setting) (pid other : ℕ) (seat : Seat) → permitted ≡ q.permitted
-    → found_at (record q { permitted = permitted }) pid seat ≡ None → found_at q other seat ≡ None
-none_alike permitted q pid other seat same none =
+none_alike : (q : Setting) (pid other : ℕ) (seat : Seat) → found_at q pid seat ≡ None → found_at q other seat ≡ None
+none_alike q pid other seat none =
     map_none (λ moves. record { run = events_of q other seat moves; holder = other }) (moves_found q seat)
-    (ap (λ (may : CallKind → Bool). moves_found (record q { permitted = may }) seat) (sym same)
-    ∙ unmap_none (λ moves. record { run = events_of (record q { permitted = permitted }) pid seat moves; holder = pid })
-    (moves_found (record q { permitted = permitted }) seat) none)
+    (unmap_none (λ moves. record { run = events_of q pid seat moves; holder = pid }) (moves_found q seat) none)
 
 pub members_tried_before : MembersTriedBefore
 unfolding MembersTriedBefore
 members_tried_before permitted w s right earlier later pid any =
-    skip_like (λ n. found_for permitted w s right n (process_at s.processes n)) (λ other. AreAlike permitted s other pid) earlier later pid
+    skip_like (λ n. found_for permitted w s right n (process_at s.processes n)) (λ other. AreAlike s other pid) earlier later pid
     (λ other alike none.
-    let q : Setting = setting_in permitted w s right pid in
-    let here : found_at (setting_in permitted w s right other) other (seat_of alike.one) ≡ None
+    let here : found_at (setting_in permitted w s right alike.one) other (seat_of alike.one) ≡ None
     = sym (ap (found_for permitted w s right other) alike.first_lives) ∙ none in
+    let under : Filter → Setting =
+    λ filter. record { files = w.files; spaces = s.spaces; permitted = permitted_under filter permitted; right = right } in
     ap (found_for permitted w s right pid) alike.second_lives
-    ∙ ap (found_at q pid) (sym alike.seat)
-    ∙ none_alike (permitted other) q other pid (seat_of alike.one) (λ i kind. alike.permits kind i) here) any
+    ∙ ap (found_at (setting_in permitted w s right alike.two) pid) (sym alike.seat)
+    ∙ ap (λ (filter : Filter). found_at (under filter) pid (seat_of alike.one)) (sym alike.filter)
+    ∙ none_alike (setting_in permitted w s right alike.one) other pid (seat_of alike.one) here) any
 
 -- ---- the first moves
 -- a move that isn't to join a space leaves the member in its own

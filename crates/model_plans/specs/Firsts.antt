@@ -1,13 +1,14 @@
 -- What is found, and how: by the machine's runs, or on seats.
-use Rattle.std.specs.Prelude.{◌≡◌, ◌↔◌, ◌≤◌, ◌<◌, ℕ, false, IsTrue, List, [], ◌∷◌, ◌++◌, None, Some, All}
+use Rattle.std.specs.Prelude.{Bool, ◌≡◌, ◌↔◌, ◌≤◌, ◌<◌, ℕ, false, IsTrue, List, [], ◌∷◌, ◌++◌, None, Some, All}
 use Rattle.std.specs.Prelude.{if◌then◌else◌}
+use Rattle.cm_filter.specs.declared.kind.CallKind.{CallKind}
 use Rattle.model_cred.specs.Process.{Process, State, Ascends, process_at}
 use Rattle.model_cred.specs.Right.{Right}
 use Rattle.model_cred.specs.World.{World}
 use Rattle.model_run.specs.Family.{family}
 use Rattle.model_run.specs.Holds.{process_holds}
 use Rattle.model_run.specs.Later.{is_member}
-use Rattle.model_plans.specs.Move.{Seat, seat_of, MayCall, Move}
+use Rattle.model_plans.specs.Move.{Seat, seat_of, Move}
 use Rattle.model_plans.specs.Plan.{Plan, plans}
 use Rattle.model_plans.specs.PlanRun.{setting_in, moves_made, plan_run, holder, Found, first_found}
 use Rattle.model_plans.specs.Walk.{after_moves, seat_holds, walked}
@@ -43,18 +44,18 @@ HolderIsLeast = (s : State) (members : List ℕ) (right : Right) (pid : ℕ) →
     → (holder s members right ≡ Some pid) ↔ IsLeastHolder s members right pid
 
 -- after the run of each of the plans no member holds the right
-abbrev pub NoneHoldsAfter : MayCall → World → State → List ℕ → Right → List Plan → Type 0
+abbrev pub NoneHoldsAfter : (CallKind → Bool) → World → State → List ℕ → Right → List Plan → Type 0
 NoneHoldsAfter permitted w s members right plans =
     All (λ plan. NoneHolds (plan_run permitted w s right plan).state members right) plans
 
 -- Nothing is found exactly where after the run of each plan no member holds the right.
 unfoldable pub NothingFound : Type 0
-NothingFound = (permitted : MayCall) (w : World) (s : State) (members : List ℕ) (right : Right)
+NothingFound = (permitted : CallKind → Bool) (w : World) (s : State) (members : List ℕ) (right : Right)
     → (first_found permitted w s members right ≡ None)
     ↔ NoneHoldsAfter permitted w s members right (plans w s members right)
 
 -- what is found is the run of the first plan after which a member holds the right, and that member
-pub record IsFirst (permitted : MayCall) (w : World) (s : State) (members : List ℕ) (right : Right) (found : Found)
+pub record IsFirst (permitted : CallKind → Bool) (w : World) (s : State) (members : List ℕ) (right : Right) (found : Found)
     : Type 0 where
   pub before : List Plan
   pub plan : Plan
@@ -66,12 +67,12 @@ pub record IsFirst (permitted : MayCall) (w : World) (s : State) (members : List
 
 -- What is found is of the first such plan.
 unfoldable pub FoundIsFirst : Type 0
-FoundIsFirst = (permitted : MayCall) (w : World) (s : State) (members : List ℕ) (right : Right) (found : Found)
+FoundIsFirst = (permitted : CallKind → Bool) (w : World) (s : State) (members : List ℕ) (right : Right) (found : Found)
     → (first_found permitted w s members right ≡ Some found) ↔ IsFirst permitted w s members right found
 
 -- What is found is a later run of the members, by calls of one of them. After it the members are the same, all but the
 -- one who moved is as it was, and the holder, a member, holds the right.
-pub record EndsHolding (permitted : MayCall) (w : World) (s : State) (members : List ℕ) (right : Right) (found : Found)
+pub record EndsHolding (permitted : CallKind → Bool) (w : World) (s : State) (members : List ℕ) (right : Right) (found : Found)
     : Type 0 where
   pub mover : ℕ
   pub state : State
@@ -82,26 +83,26 @@ pub record EndsHolding (permitted : MayCall) (w : World) (s : State) (members : 
 
 -- What is found is such a run.
 unfoldable pub FoundIsLater : Type 0
-FoundIsLater = (permitted : MayCall) (w : World) (s : State) (members : List ℕ) (right : Right) (found : Found)
+FoundIsLater = (permitted : CallKind → Bool) (w : World) (s : State) (members : List ℕ) (right : Right) (found : Found)
     → first_found permitted w s members right ≡ Some found → EndsHolding permitted w s members right found
 
 -- the seat of a process after moves
-abbrev pub seat_then : MayCall → World → State → Right → ℕ → Process → List Move → Seat
-seat_then permitted w s right pid p moves = after_moves (setting_in permitted w s right pid) (seat_of p) moves
+abbrev pub seat_then : (CallKind → Bool) → World → State → Right → Process → List Move → Seat
+seat_then permitted w s right p moves = after_moves (setting_in permitted w s right p) (seat_of p) moves
 
 -- Where no member held the right, one holds it after moves exactly where the one who moved does, at the seat where it
 -- then is.
 unfoldable pub MoverDecides : Type 0
 MoverDecides =
-    (permitted : MayCall) (w : World) (s : State) (members : List ℕ) (right : Right) (pid : ℕ) (p : Process)
+    (permitted : CallKind → Bool) (w : World) (s : State) (members : List ℕ) (right : Right) (pid : ℕ) (p : Process)
     (moves : List Move)
     → process_at s.processes pid ≡ Some p → IsTrue (is_member members pid) → holder s members right ≡ None
     → holder (moves_made permitted w s right pid moves).state members right
-    ≡ (if seat_holds (setting_in permitted w s right pid) (seat_then permitted w s right pid p moves)
+    ≡ (if seat_holds (setting_in permitted w s right p) (seat_then permitted w s right p moves)
     then Some pid else None)
 
 -- The walk on seats, by members, first, middle and last choices, finds what the list of plans and the machine's runs
 -- do.
 unfoldable pub WalkFindsTheSame : Type 0
-WalkFindsTheSame = (permitted : MayCall) (w : World) (s : State) (members : List ℕ) (right : Right)
+WalkFindsTheSame = (permitted : CallKind → Bool) (w : World) (s : State) (members : List ℕ) (right : Right)
     → first_found permitted w s members right ≡ walked permitted w s members right

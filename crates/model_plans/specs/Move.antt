@@ -23,12 +23,8 @@ pub record Seat : Type 0 where
 abbrev pub seat_of : Process → Seat
 seat_of p = record { space = p.space; cred = p.cred }
 
--- which kinds of calls are permitted to which process
-abbrev pub MayCall : Type 0
-MayCall = ℕ → CallKind → Bool
-
--- What the moves of a member rest on and leave as it is: the declared files, the spaces, the kinds of calls that are
--- permitted to the member, and the right that is sought.
+-- What the moves of a member rest on and leave as it is: the declared files, the spaces, the kinds of calls that it may
+-- make, and the right that is sought.
 pub record Setting : Type 0 where
   pub files : FileTable
   pub spaces : Spaces

@@ -1,13 +1,15 @@
 -- What plans come to: the run of each, by the machine's own steps, and the first that ends with a holder of the right.
-use Rattle.std.specs.Prelude.{ℕ, find, List, [], ◌∷◌, ◌++◌, Option, None, Some, option_map}
+use Rattle.std.specs.Prelude.{ℕ, find, Bool, List, [], ◌∷◌, ◌++◌, Option, None, Some, option_map}
 use Rattle.std.specs.Option.{option_or}
+use Rattle.cm_filter.specs.declared.kind.CallKind.{CallKind}
 use Rattle.model_cred.specs.Call.{Call, Event}
 use Rattle.model_cred.specs.Process.{Process, State, process_at}
 use Rattle.model_cred.specs.Right.{Right}
 use Rattle.model_cred.specs.World.{World}
 use Rattle.model_run.specs.Holds.{process_holds}
+use Rattle.model_run.specs.Own.{permitted_under}
 use Rattle.model_run.specs.Ruling.{Ruling, own}
-use Rattle.model_plans.specs.Move.{seat_of, MayCall, Setting, Move, call_of}
+use Rattle.model_plans.specs.Move.{seat_of, Setting, Move, call_of}
 use Rattle.model_plans.specs.Plan.{Plan, plans}
 
 -- What is made: the events, refusals among them, and the state after them.
@@ -26,23 +28,23 @@ call_made w s pid p (Some call) =
     let r : Ruling = own w s p call in
     record { events = record { pid = pid; call = call; res = r.res } ∷ []; state = r.state }
 
--- the setting of a member's moves in a state; the kinds of calls that are permitted may depend on the member
-abbrev pub setting_in : MayCall → World → State → Right → ℕ → Setting
-setting_in permitted w s right pid = record {
+-- the setting of a process's moves in a state: what is permitted, and its own filter at that moment doesn't exclude
+abbrev pub setting_in : (CallKind → Bool) → World → State → Right → Process → Setting
+setting_in permitted w s right p = record {
   files = w.files;
   spaces = s.spaces;
-  permitted = permitted pid;
+  permitted = permitted_under p.filter permitted;
   right = right;
 }
 
 -- one move, whose call is found where the member stands; who isn't alive makes none
-abbrev pub move_made : MayCall → World → State → Right → ℕ → Option Process → Move → PlanRun
+abbrev pub move_made : (CallKind → Bool) → World → State → Right → ℕ → Option Process → Move → PlanRun
 move_made permitted w s right pid None move = nothing_made s
 move_made permitted w s right pid (Some p) move =
-    call_made w s pid p (call_of (setting_in permitted w s right pid) (seat_of p) move)
+    call_made w s pid p (call_of (setting_in permitted w s right p) (seat_of p) move)
 
 -- The moves of a member, one after another, each in the state that those before it leave.
-abbrev pub moves_made : MayCall → World → State → Right → ℕ → List Move → PlanRun
+abbrev pub moves_made : (CallKind → Bool) → World → State → Right → ℕ → List Move → PlanRun
 moves_made permitted w s right pid [] = nothing_made s
 moves_made permitted w s right pid (move ∷ moves) =
     let one : PlanRun = move_made permitted w s right pid (process_at s.processes pid) move in
@@ -50,7 +52,7 @@ moves_made permitted w s right pid (move ∷ moves) =
     record { events = one.events ++ rest.events; state = rest.state }
 
 -- the run of a plan
-abbrev pub plan_run : MayCall → World → State → Right → Plan → PlanRun
+abbrev pub plan_run : (CallKind → Bool) → World → State → Right → Plan → PlanRun
 plan_run permitted w s right plan = moves_made permitted w s right plan.pid plan.moves
 
 -- the first of the members who holds the right, which is the least where members ascend
@@ -73,6 +75,6 @@ first_some answer [] = None
 first_some answer (x ∷ xs) = option_or (answer x) (first_some answer xs)
 
 -- What is found by the first plan whose run ends with a member that holds the right. Of a run the end alone counts.
-unfoldable pub first_found : MayCall → World → State → List ℕ → Right → Option Found
+unfoldable pub first_found : (CallKind → Bool) → World → State → List ℕ → Right → Option Found
 first_found permitted w s members right =
     first_some (λ plan. found_by members right (plan_run permitted w s right plan)) (plans w s members right)

@@ -1,24 +1,25 @@
 -- What a walk may share, and what it may leave out.
-use Rattle.std.specs.Prelude.{◌≡◌, ℕ, IsTrue, List, ◌∷◌, ◌++◌, Some, option_map, Any}
+use Rattle.std.specs.Prelude.{Bool, ◌≡◌, ℕ, IsTrue, List, ◌∷◌, ◌++◌, Some, option_map, Any}
 use Rattle.cm_filter.specs.declared.kind.CallKind.{CallKind}
 use Rattle.model_cred.specs.Process.{Process, State, process_at}
 use Rattle.model_cred.specs.Right.{Right}
 use Rattle.model_cred.specs.World.{World}
 use Rattle.model_run.specs.Later.{is_member}
-use Rattle.model_plans.specs.Move.{Seat, seat_of, MayCall, Setting, Move, Raise}
+use Rattle.model_run.specs.Own.{filter_of}
+use Rattle.model_plans.specs.Move.{Seat, seat_of, Setting, Move, Raise}
 use Rattle.model_plans.specs.Plan.{Choice, then_raise}
 use Rattle.model_plans.specs.PlanRun.{PlanRun, moves_made, first_found}
 use Rattle.model_plans.specs.Walk.{after_moves, events_of, middle_found, moves_from, found_among}
 
 -- what is made, and what more moves make after it
-abbrev pub then_made : MayCall → World → Right → ℕ → PlanRun → List Move → PlanRun
+abbrev pub then_made : (CallKind → Bool) → World → Right → ℕ → PlanRun → List Move → PlanRun
 then_made permitted w right pid made moves =
     let more : PlanRun = moves_made permitted w made.state right pid moves in
     record { events = made.events ++ more.events; state = more.state }
 
 -- First moves are shared: moves after others go on from where those end, by the machine and on a seat.
 pub record FirstMovesAreShared : Type 0 where
-  pub run : (permitted : MayCall) (w : World) (s : State) (right : Right) (pid : ℕ) (moves more : List Move)
+  pub run : (permitted : CallKind → Bool) (w : World) (s : State) (right : Right) (pid : ℕ) (moves more : List Move)
       → moves_made permitted w s right pid (moves ++ more)
       ≡ then_made permitted w right pid (moves_made permitted w s right pid moves) more
   pub seat : (q : Setting) (seat : Seat) (moves more : List Move)
@@ -39,31 +40,31 @@ MiddleChoicesTriedBefore = (q : Setting) (seat : Seat) (earlier later : List Cho
     → Any (λ other. after_moves q seat (then_raise other) ≡ after_moves q seat (then_raise middle)) earlier
     → middle_found q seat (earlier ++ middle ∷ later) ≡ middle_found q seat (earlier ++ later)
 
--- the two processes live at one seat, and the same kinds of calls are permitted to them
-pub record AreAlike (permitted : MayCall) (s : State) (pid other : ℕ) : Type 0 where
+-- the two processes live at one seat, under one filter
+pub record AreAlike (s : State) (pid other : ℕ) : Type 0 where
   pub one : Process
   pub two : Process
   pub first_lives : process_at s.processes pid ≡ Some one
   pub second_lives : process_at s.processes other ≡ Some two
   pub seat : seat_of one ≡ seat_of two
-  pub permits : (kind : CallKind) → permitted pid kind ≡ permitted other kind
+  pub filter : one.filter ≡ two.filter
 
 -- A member that is like an earlier one may be skipped.
 unfoldable pub MembersTriedBefore : Type 0
 MembersTriedBefore =
-    (permitted : MayCall) (w : World) (s : State) (right : Right) (earlier later : List ℕ) (pid : ℕ)
-    → Any (λ other. AreAlike permitted s other pid) earlier
+    (permitted : CallKind → Bool) (w : World) (s : State) (right : Right) (earlier later : List ℕ) (pid : ℕ)
+    → Any (λ other. AreAlike s other pid) earlier
     → found_among permitted w s right (earlier ++ pid ∷ later) ≡ found_among permitted w s right (earlier ++ later)
 
--- the members are at the same seats in both states, if they live, and the same kinds of calls are permitted to them
-abbrev pub AreSeatedAlike : MayCall → MayCall → State → State → List ℕ → Type 0
-AreSeatedAlike permitted other s t members = (pid : ℕ) → IsTrue (is_member members pid)
+-- the members are at the same seats in both states, if they live, under the same filters (equal numbers)
+abbrev pub AreSeatedAlike : State → State → List ℕ → Type 0
+AreSeatedAlike s t members = (pid : ℕ) → IsTrue (is_member members pid)
     → (option_map seat_of (process_at s.processes pid) ≡ option_map seat_of (process_at t.processes pid))
-    × ((kind : CallKind) → permitted pid kind ≡ other pid kind)
+    × (filter_of s pid ≡ filter_of t pid)
 
--- What is found depends on the spaces and on the members' own seats alone, whatever other processes hold.
+-- What is found depends on the spaces and on the members' own seats and filters alone, whatever other processes hold.
 unfoldable pub MembersSeatsDecide : Type 0
 MembersSeatsDecide =
-    (permitted other : MayCall) (w : World) (s t : State) (members : List ℕ) (right : Right)
-    → s.spaces ≡ t.spaces → AreSeatedAlike permitted other s t members
-    → first_found permitted w s members right ≡ first_found other w t members right
+    (permitted : CallKind → Bool) (w : World) (s t : State) (members : List ℕ) (right : Right)
+    → s.spaces ≡ t.spaces → AreSeatedAlike s t members
+    → first_found permitted w s members right ≡ first_found permitted w t members right

@@ -2,13 +2,14 @@
 -- are all that has to be kept, and plans with the same first moves share what these leave.
 use Rattle.std.specs.Prelude.{ℕ, Bool, find, List, [], ◌∷◌, ◌++◌, Option, None, Some, option_map}
 use Rattle.std.specs.Option.{option_or}
+use Rattle.cm_filter.specs.declared.kind.CallKind.{CallKind}
 use Rattle.model_cred.specs.Call.{Call, Event}
 use Rattle.model_cred.specs.Process.{Process, State, process_at}
 use Rattle.model_cred.specs.Right.{Right}
 use Rattle.model_cred.specs.World.{World}
 use Rattle.model_rules.specs.Reply.{Reply, reply}
 use Rattle.model_run.specs.Holds.{holds_right}
-use Rattle.model_plans.specs.Move.{Seat, seat_of, MayCall, Setting, Move, Raise, call_of}
+use Rattle.model_plans.specs.Move.{Seat, seat_of, Setting, Move, Raise, call_of}
 use Rattle.model_plans.specs.Plan.{Choice, first_choices, middle_choices, last_choices, then_raise}
 use Rattle.model_plans.specs.PlanRun.{setting_in, holder, Found, first_some}
 
@@ -73,12 +74,12 @@ found_at q pid seat =
     option_map (λ moves. record { run = events_of q pid seat moves; holder = pid }) (moves_found q seat)
 
 -- what is found by a member that lives
-abbrev pub found_for : MayCall → World → State → Right → ℕ → Option Process → Option Found
+abbrev pub found_for : (CallKind → Bool) → World → State → Right → ℕ → Option Process → Option Found
 found_for permitted w s right pid None = None
-found_for permitted w s right pid (Some p) = found_at (setting_in permitted w s right pid) pid (seat_of p)
+found_for permitted w s right pid (Some p) = found_at (setting_in permitted w s right p) pid (seat_of p)
 
 -- what is found by the first of these members that finds something
-abbrev pub found_among : MayCall → World → State → Right → List ℕ → Option Found
+abbrev pub found_among : (CallKind → Bool) → World → State → Right → List ℕ → Option Found
 found_among permitted w s right pids =
     first_some (λ pid. found_for permitted w s right pid (process_at s.processes pid)) pids
 
@@ -87,5 +88,5 @@ abbrev pub found_now : State → List ℕ → Right → Option Found
 found_now s members right = option_map (λ pid. record { run = []; holder = pid }) (holder s members right)
 
 -- What is found on seats: without a move, else by the first member, and the first of its choices.
-unfoldable pub walked : MayCall → World → State → List ℕ → Right → Option Found
+unfoldable pub walked : (CallKind → Bool) → World → State → List ℕ → Right → Option Found
 walked permitted w s members right = option_or (found_now s members right) (found_among permitted w s right members)

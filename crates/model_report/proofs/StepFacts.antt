@@ -10,10 +10,11 @@ use Rattle.model_cred.specs.Process.{Process, State, process_at, is_pid, put_pro
 use Rattle.model_cred.specs.Space.{Spaces}
 use Rattle.model_cred.specs.World.{World}
 use Rattle.model_rules.specs.Namespaces.{clone_user}
-use Rattle.model_run.specs.Outside.{comes_from_outside}
 use Rattle.model_run.specs.Ruling.{Ruling, ruling, own, reply_to, state_left, fork_child, clone_child, birth, birth_unless, spaces_left}
+use Rattle.model_run.specs.Ruling.{permitted_ruling, filter_left}
+use Rattle.model_laws.proofs.StepParts.{by_filter}
 use Rattle.model_run.specs.Same.{same_res}
-use Rattle.model_run.specs.Step.{Outcome, Goes, NoSpace, PidInUse, Wrong, Step, outcome_for, names_no_space, is_living_child, told_child}
+use Rattle.model_run.specs.Step.{Outcome, Goes, NoSpace, PidInUse, Wrong, Step, outcome_for, names_no_space, is_living_child, told_child, answers_from_outside}
 use Rattle.model_cred.proofs.Lookups.{pid_of_found, at_put_other, at_insert_other, IsLike, like_after_exit, at_without_other}
 
 -- ---- whether an event goes on
@@ -52,15 +53,19 @@ reply_leaves : (w : World) (s : State) (p : Process) (call : Call)
     → Changes s p (reply_to w s p call).res (state_left s p call (reply_to w s p call))
 unfolding Changes
 reply_leaves w s p call =
-    inr (inl (record (record p { space = (reply_to w s p call).space }) { cred = (reply_to w s p call).cred }, refl, refl))
+    inr (inl (record p { space = (reply_to w s p call).space; cred = (reply_to w s p call).cred; filter = filter_left p call }, refl, refl))
+
+permitted_leaves : (w : World) (s : State) (p : Process) (call : Call) (pid : ℕ) → Changes s p (permitted_ruling w s p call pid).res (permitted_ruling w s p call pid).state
+unfolding Changes
+permitted_leaves w s p Fork pid = birth_leaves s p (fork_child p pid) s.spaces
+permitted_leaves w s p CloneUser pid =
+    unless_leaves (clone_user s.spaces p.space p.cred) s p (clone_child s.spaces p pid) (spaces_left s p CloneUser)
+permitted_leaves w s p Exit pid = inr (inr (inr refl))
+permitted_leaves w s p call pid = reply_leaves w s p call
 
 ruling_leaves : (w : World) (s : State) (p : Process) (call : Call) (pid : ℕ) → Changes s p (ruling w s p call pid).res (ruling w s p call pid).state
 unfolding Changes
-ruling_leaves w s p Fork pid = birth_leaves s p (fork_child p pid) s.spaces
-ruling_leaves w s p CloneUser pid =
-    unless_leaves (clone_user s.spaces p.space p.cred) s p (clone_child s.spaces p pid) (spaces_left s p CloneUser)
-ruling_leaves w s p Exit pid = inr (inr (inr refl))
-ruling_leaves w s p call pid = reply_leaves w s p call
+ruling_leaves w s p call pid = by_filter (λ r. Changes s p r.res r.state) w s p call pid (inl refl) (permitted_leaves w s p call pid)
 
 -- ---- the states that an event leads to
 -- a result that is the rules' own tells the child that they tell
@@ -100,7 +105,7 @@ made_by w s e s' (Some p) is goes =
       p,
       is,
       changes_by s p e.res (own w s p e.call).res given s' (names_no_space s.spaces e.call) (is_living_child s.processes e.res)
-          (comes_from_outside e.call e.res) (same_res e.res given.res) refl (ruling_leaves w s p e.call (told_child e.res)) goes,
+          (answers_from_outside p e.call e.res) (same_res e.res given.res) refl (ruling_leaves w s p e.call (told_child e.res)) goes,
     )
 
 made : (w : World) (s : State) (e : Event) (s' : State) → Step w s e s' → Made s e s'
@@ -114,7 +119,7 @@ pub record WasThere (s : State) (p : Process) : Type 0 where
   pub like : IsLike process p
 
 there_as_it_was : (s : State) (p : Process) → process_at s.processes p.pid ≡ Some p → WasThere s p
-there_as_it_was s p found = record { process = p; found = found; like = record { pid = refl; space = refl; cred = refl } }
+there_as_it_was s p found = record { process = p; found = found; like = record { pid = refl; space = refl; cred = refl; filter = refl } }
 
 left_by_exit : (s : State) (gone p : Process) (found : Option Process) → process_at s.processes p.pid ≡ found
     → option_map (after_exit gone) found ≡ Some p → WasThere s p

@@ -1,6 +1,7 @@
 -- What rows of bounds are found to be, test after test: whether they show that a family never holds a right.
 use Rattle.std.specs.Prelude.{ℕ, List}
 use Rattle.cm_filter.specs.Filters.{permits}
+use Rattle.model_run.specs.Own.{common_filter}
 use Rattle.model_box.specs.Bounds.{BoxRow, bounds_hold}
 use Rattle.model_box.specs.Covers.{Covers}
 use Rattle.model_box.specs.Encloses.{Encloses}
@@ -25,15 +26,15 @@ pub data Checked : Type 0 where
 abbrev pub RowsHold : List BoxRow → Row → Part → ℕ → Type 0
 RowsHold rows = tested (bounds_hold rows)
 
--- The rows cover the members now, and this is the first rule and row at which they aren't closed under the world's
--- filter.
+-- The rows cover the members now, and this is the first rule and row at which they aren't closed under the filter that
+-- is common to the world and the members.
 pub record IsFirstOpenIn (w : World) (s : State) (members : List ℕ) (rows : List BoxRow) (turn : Turn) : Type 0 where
-  pub covers : Covers s s members (RowsHold rows)
-  pub first : IsFirstOpen (permits w.filter) w.files s.spaces (RowsHold rows) turn.rule (row_number turn.row)
+  pub covers : Covers s members s members (RowsHold rows)
+  pub first : IsFirstOpen (permits (common_filter w s members)) w.files s.spaces (RowsHold rows) turn.rule (row_number turn.row)
 
--- the rows enclose the members under the world's filter
+-- the rows enclose the members under that filter
 abbrev pub EnclosesIn : World → State → List ℕ → List BoxRow → Type 0
-EnclosesIn w s members rows = Encloses (permits w.filter) w.files s members (RowsHold rows)
+EnclosesIn w s members rows = Encloses (permits (common_filter w s members)) w.files s members (RowsHold rows)
 
 -- They do, and this is the first row by which they meet the right.
 pub record IsFirstMetIn (w : World) (s : State) (members : List ℕ) (rows : List BoxRow) (right : Right) (row : Row) : Type 0

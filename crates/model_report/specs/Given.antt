@@ -22,7 +22,7 @@ use Rattle.model_text.specs.Reading.{AtEnd, Reading, events_of}
 use Rattle.model_text.specs.WorldText.{Reads, world_text}
 
 -- The verdict is that on what the query asks in the state: on the right, of the family, by calls that the world's filter
--- permits. Of a certificate that reads as rows, these are found to be so.
+-- and the members' own permit. Of a certificate that reads as rows, these are found to be so.
 abbrev pub StateGives : Task → World → State → Judged → Type 0
 StateGives NoTask w s j = Unit {0}
 StateGives (ToJudge q) w s j =

@@ -7,7 +7,6 @@ use Rattle.cm_base.specs.declared.limited.Limited.TheVariants as limit
 use Rattle.cm_base.specs.declared.status.Status.{Status}
 use Rattle.cm_base.specs.declared.status.Status.TheVariants as status
 use Rattle.cm_base.specs.Limited.{limit_number}
-use Rattle.cm_filter.specs.Filters.{permits}
 use Rattle.model_box.proofs.Starts.{holds_start}
 use Rattle.model_box.proofs.Worlds.{run_fits}
 use Rattle.model_box.specs.Bounds.{BoxRow}
@@ -40,10 +39,9 @@ use Rattle.model_report.specs.Told.{Told, TellsNo, TellsYes, TellsUndecided, ver
 use Rattle.model_run.specs.Family.{family}
 use Rattle.model_run.specs.Within.{RunWithin}
 use Rattle.model_text.specs.Reading.{script_reading}
-use Rattle.model_verdict.proofs.InWorlds.{may_within}
 use Rattle.model_verdict.proofs.Verdicts.{one_verdict, yes_exactly, undecided_exactly}
 use Rattle.model_verdict.specs.Blame.{Blame}
-use Rattle.model_verdict.specs.InWorld.{each_may, VerdictIn}
+use Rattle.model_verdict.specs.InWorld.{VerdictIn}
 use Rattle.model_verdict.specs.Least.{Test}
 use Rattle.model_verdict.specs.Verdict.{Verdict, No, Yes, Undecided, AreOne, OneVerdict, YesExactly, UndecidedExactly}
 
@@ -94,7 +92,7 @@ pub status_is : (w : World) (s : State) (members : List ℕ) (right : Right) (x 
 unfolding OneVerdict
 status_is w s members right x u given is =
     told_status w s.spaces x
-    ∙ one_status (verdict_in x) u (one_verdict (each_may w) (permits w.filter) w s members right (verdict_in x) u given.verdict is)
+    ∙ one_status (verdict_in x) u (one_verdict w s members right (verdict_in x) u given.verdict is)
 
 -- ---- certificates
 -- rows that enclose the members, and don't meet the right, hold
@@ -188,9 +186,9 @@ module _ (q : Query) (w : World) (s : State) (j : Judged) where
     unfolding YesExactly UndecidedExactly
     verdict_cause p right asked (TellsNo found) is = (p, right, asked, (found, is.verdict))
     verdict_cause p right asked (TellsYes rows) is =
-        (p, right, asked, (yes_exactly (each_may w) (permits w.filter) w s (family s p.pid) right (may_within w (family s p.pid)) fits.keeps fits.files asked.standing).0 (_, is.verdict))
+        (p, right, asked, (yes_exactly w s (family s p.pid) right fits.keeps fits.files asked.standing).0 (_, is.verdict))
     verdict_cause p right asked (TellsUndecided blame rows) is =
-        (p, right, asked, (undecided_exactly (each_may w) (permits w.filter) w s (family s p.pid) right fits.keeps).0 (blame, _, is.verdict))
+        (p, right, asked, (undecided_exactly w s (family s p.pid) right fits.keeps).0 (blame, _, is.verdict))
 
     judge_cause : TaskCause (ToJudge q) w s (answer (ToJudge q) j w s).status
     judge_cause =
@@ -206,12 +204,12 @@ module _ (q : Query) (w : World) (s : State) (j : Judged) where
     unfolding YesExactly UndecidedExactly
     judge_by status.Accepted (p, right, asked, excluding) =
         let there : (bounds : Test) × VerdictIn w s (family s p.pid) right (Yes bounds)
-        = (yes_exactly (each_may w) (permits w.filter) w s (family s p.pid) right (may_within w (family s p.pid)) fits.keeps fits.files asked.standing).1 excluding in
+        = (yes_exactly w s (family s p.pid) right fits.keeps fits.files asked.standing).1 excluding in
         judged_by p right asked (Yes there.0) there.1
     judge_by status.No (p, right, asked, (found, is)) = judged_by p right asked (No found) is
     judge_by status.Undecided (p, right, asked, is) =
         let there : (blame : Blame) × (below : Test) × VerdictIn w s (family s p.pid) right (Undecided blame below)
-        = (undecided_exactly (each_may w) (permits w.filter) w s (family s p.pid) right fits.keeps).1 is in
+        = (undecided_exactly w s (family s p.pid) right fits.keeps).1 is in
         judged_by p right asked (Undecided there.0 there.1) there.2
     judge_by status.BadQuery (q', same, is) = bad_by q q' (ToJudge q) j w s same is
     judge_by status.Limit (inl (q', same, is)) = large_by q q' (ToJudge q) j w s same is

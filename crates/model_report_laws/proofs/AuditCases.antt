@@ -11,6 +11,7 @@ use Rattle.cm_base.specs.Limited.{limit_number}
 use Rattle.model_box.specs.Row.{Row, Standing, Fresh}
 use Rattle.model_box.specs.Rule.{ExecUid, Maps, rules_in_order}
 use Rattle.model_box.specs.RuleNames.{rule_name}
+use Rattle.cm_filter.specs.Filters.{permits}
 use Rattle.model_cred.specs.Call.{Call, Event, CapSet, SetResUid}
 use Rattle.model_cred.specs.Process.{Process, State}
 use Rattle.model_cred.specs.Right.{Right, Cap, Uid}
@@ -36,7 +37,6 @@ use Rattle.model_text.proofs.ProcessCases.{of_row}
 use Rattle.model_text.proofs.WorldCases.{world_on_literals}
 use Rattle.model_text.specs.Reading.{events_of, script_reading}
 use Rattle.model_verdict.specs.Blame.{AtStart, ByTurn}
-use Rattle.model_verdict.specs.InWorld.{each_may}
 
 -- ---- words
 -- three spaces: the initial one, one that is declared as `box`, and one that a call made
@@ -122,7 +122,7 @@ abbrev found_after : List ℕ → Right → Option Found
 found_after log right =
     let w : World = world_of_100 0 in
     let s : State = state_after w w.start (events_of (script_reading w log).events) in
-    first_found (each_may w) w s (family s 100) right
+    first_found (permits w.filter) w s (family s 100) right
 
 pub verdicts : record {
   root_that_stepped_down_takes_each_user_id : RowAudits [] steps_down (codes "uid:7") (TellsNo raises_and_becomes_7)

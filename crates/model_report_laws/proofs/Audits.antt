@@ -3,7 +3,6 @@
 use Rattle.std.proofs.Common.{◌≡◌, ℕ, Bool, false, inl, inr, List, [], Some, refl, sym, ◌∙◌, ap, subst}
 use Rattle.cm_base.specs.declared.status.Status.{Status}
 use Rattle.cm_base.specs.declared.status.Status.TheVariants as status
-use Rattle.cm_filter.specs.Filters.{permits}
 use Rattle.model_box.proofs.Stated.{exclusion}
 use Rattle.model_box.proofs.Worlds.{state_fits}
 use Rattle.model_box.specs.Bounds.{bounds_hold}
@@ -39,7 +38,7 @@ use Rattle.model_run.specs.Never.{NeverHeld}
 use Rattle.model_text.specs.Reading.{script_reading}
 use Rattle.model_verdict.proofs.InWorlds.{no_is_first_run}
 use Rattle.model_verdict.proofs.Verdicts.{undecided_exactly, undecided_is_unsettled}
-use Rattle.model_verdict.specs.InWorld.{each_may, ExcludedIn, SettledIn, NoIsFirstRun}
+use Rattle.model_verdict.specs.InWorld.{ExcludedIn, SettledIn, NoIsFirstRun}
 use Rattle.model_verdict.specs.Verdict.{UndecidedExactly, UndecidedIsUnsettled}
 
 -- a task has the query of its command
@@ -69,7 +68,7 @@ module _ (words : List (List ℕ)) (bytes : List ℕ → List ℕ) where
   excluded_never is members right standing excluding =
       let fits : Fits is.world is.state = accepted_fits words bytes is in
       λ events later members_then run pid member.
-      exclusion (permits is.world.filter) is.world is.state members excluding.bounds right (state_fits is.state fits.keeps) fits.files standing
+      exclusion is.world is.state members excluding.bounds right (state_fits is.state fits.keeps) fits.files standing
       excluding.encloses.covers excluding.encloses.closed excluding.apart events later members_then run pid member
 
   never_by : (is : IsAccepted words bytes) (task : Task) → the_task ≡ task → AsksNever task → IsDone task is.world is.state → ShowsNever words bytes
@@ -185,10 +184,10 @@ module _ (words : List (List ℕ)) (bytes : List ℕ → List ℕ) where
         record {
           asking = asked_so is q p right (ap query_in asked) asks;
           neither =
-              (undecided_exactly (each_may is.world) (permits is.world.filter) is.world is.state members right fits.keeps).0
+              (undecided_exactly is.world is.state members right fits.keeps).0
               (blame, bounds_hold rows, given.verdict);
           unsettled =
-              undecided_is_unsettled (each_may is.world) (permits is.world.filter) is.world is.state members right blame (bounds_hold rows)
+              undecided_is_unsettled is.world is.state members right blame (bounds_hold rows)
               fits.keeps given.verdict;
           blame = blame;
           rows = rows;
@@ -232,7 +231,7 @@ module _ (words : List (List ℕ)) (bytes : List ℕ → List ℕ) where
     settled_told is (TellsNo found) given settled said = cc
     settled_told is (TellsYes rows) given settled said = cc
     settled_told is (TellsUndecided blame rows) given settled said =
-        undecided_is_unsettled (each_may is.accepted.world) (permits is.accepted.world.filter) is.accepted.world is.accepted.state
+        undecided_is_unsettled is.accepted.world is.accepted.state
         (members_of words bytes is) is.right blame (bounds_hold rows) (accepted_fits words bytes is.accepted).keeps given.verdict settled
 
     settled_never : (is : Asking words bytes) → SettledIn is.accepted.world is.accepted.state (members_of words bytes is)

@@ -175,7 +175,7 @@ pub faults_in_lines : record {
       (codes "1: argument 1" ∷ codes "1: argument 3" ∷ codes "1: argument 4" ∷ codes "1: argument 1"
       ∷ codes "1: argument 4" ∷ codes "1: argument 2" ∷ codes "1: argument 2" ∷ []);
   -- blank lines and comments count as lines
-  results_by_their_calls : AreBadLogs (codes "100 setfsuid 1 = EPERM\n" ∷ codes "100 fork = 0\n"
+  results_by_their_calls : AreBadLogs (codes "100 setfsuid 1 = EINVAL\n" ∷ codes "100 fork = 0\n"
       ∷ codes "\n; x\n \t\n100 exit = EPERM\n" ∷ codes ";\n100 execve - = ENOSYS" ∷ [])
       (codes "1: result" ∷ codes "1: result" ∷ codes "4: result" ∷ codes "2: result" ∷ []);
   -- each of these lines has all the faults that come after the one that is told

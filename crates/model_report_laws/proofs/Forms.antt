@@ -1,6 +1,7 @@
 -- A report's text doesn't rest on the form of log that the world declares.
 use Rattle.std.proofs.Common.{◌≡◌, ℕ, ◌+◌, List, [], ◌∷◌, ◌++◌, Option, None, Some, Bool, true, false, nat_lt, length, map, Result, Ok, Err, refl, sym, ap, ap₂, ◌∙◌, subst}
 use Rattle.std.specs.Prelude.{codes, decimal, if◌then◌else◌}
+use Rattle.cm_filter.specs.Filters.{excludes, permits}
 use Rattle.cm_filter.specs.Kinds.{call_name, kind_named}
 use Rattle.cm_base.specs.declared.limited.Limited.{Limited}
 use Rattle.cm_base.specs.declared.res.Res.{Res}
@@ -45,10 +46,9 @@ use Rattle.model_report_laws.proofs.Lines.{plain_step}
 use Rattle.model_run.specs.Family.{family}
 use Rattle.model_run.specs.Later.{members_after}
 use Rattle.model_run.specs.Within.{RunWithin}
-use Rattle.model_run.specs.Ruling.{Ruling, ruling, free_pid}
+use Rattle.model_run.specs.Ruling.{Ruling, ruling, permitted_ruling, excluded_ruling, free_pid}
 use Rattle.model_run.specs.Step.{Outcome, Goes, NoProcess, NoSpace, PidInUse, Wrong, outcome, outcome_for}
-use Rattle.model_run.specs.Step.{told_child, told_rules, names_no_space, is_living_child}
-use Rattle.model_run.specs.Outside.{comes_from_outside}
+use Rattle.model_run.specs.Step.{told_child, told_rules, names_no_space, is_living_child, answers_from_outside}
 use Rattle.model_text.specs.Arguments.{Argument, Form, Pattern, argument_text, argument_token, arguments_of, form_at, pattern_of, spaced_texts, takes}
 use Rattle.model_text.specs.Arguments as argument
 use Rattle.model_text.specs.Print.{credential_line, event_line, event_text, res_text}
@@ -60,29 +60,34 @@ use Rattle.model_text.specs.Line.{kind_line, call_line, pid_line, tokens_line}
 use Rattle.model_text.specs.Reading.{Placed, End, Reading, events_of, from_line, line_cut, lines_reading, script_reading}
 use Rattle.model_text.specs.Token.{pid_token, is_comment}
 use Rattle.model_verdict.specs.Verdict.{Verdict, No, Yes, Undecided}
-use Rattle.model_verdict.specs.InWorld.{each_may, VerdictIn}
+use Rattle.model_verdict.specs.InWorld.{VerdictIn}
 
 -- the world, with that form of log
 abbrev in_form : World → LogForm → World
 in_form v form = record v { form = form }
 
 -- ---- what becomes of events
+permitted_form : (v : World) (form : LogForm) (s : State) (p : Process) (call : Call) (n : ℕ)
+    → permitted_ruling (in_form v form) s p call n ≡ permitted_ruling v s p call n
+permitted_form v form s p model.Exit n = refl
+permitted_form v form s p _ n = refl
+
 ruling_form : (v : World) (form : LogForm) (s : State) (p : Process) (call : Call) (n : ℕ) → ruling (in_form v form) s p call n ≡ ruling v s p call n
-ruling_form v form s p (model.SetUid _) n = refl
-ruling_form v form s p _ n = refl
+ruling_form v form s p call n =
+    ap (λ (r : Ruling). if excludes p.filter (kind_of call) then excluded_ruling s else r) (permitted_form v form s p call n)
 
 -- what becomes of a call by what the rules give and what they answer of themselves
-abbrev become : State → Event → Ruling → Ruling → Outcome
-become s e given answer =
+abbrev become : State → Process → Event → Ruling → Ruling → Outcome
+become s p e given answer =
     if names_no_space s.spaces e.call then NoSpace
     else if is_living_child s.processes e.res then PidInUse
-    else if comes_from_outside e.call e.res then Goes s
+    else if answers_from_outside p e.call e.res then Goes s
     else told_rules e.res given answer
 
 outcome_for_form : (v : World) (form : LogForm) (s : State) (p : Option Process) (e : Event) → outcome_for (in_form v form) s p e ≡ outcome_for v s p e
 outcome_for_form v form s None e = refl
 outcome_for_form v form s (Some p) e =
-    ap₂ (λ (given answer : Ruling). become s e given answer) (ruling_form v form s p e.call (told_child e.res)) (ruling_form v form s p e.call (free_pid s))
+    ap₂ (λ (given answer : Ruling). become s p e given answer) (ruling_form v form s p e.call (told_child e.res)) (ruling_form v form s p e.call (free_pid s))
 
 outcome_form : (v : World) (form : LogForm) (s : State) (e : Event) → outcome (in_form v form) s e ≡ outcome v s e
 outcome_form v form s e = outcome_for_form v form s (process_at s.processes e.pid) e
@@ -95,6 +100,7 @@ state_form v form s (e ∷ es) =
 
 -- ---- how events are written
 argument_form : (v : World) (form : LogForm) (a : Argument) → argument_text (in_form v form) a ≡ argument_text v a
+argument_form v form (argument.Kind kind) = refl
 argument_form v form (argument.Id n) = refl
 argument_form v form _ = refl
 
@@ -259,20 +265,20 @@ lines_form v form number (line ∷ lines) stop =
     (lines_form v form (number + 1) lines stop)
 
 -- ---- runs that are put forward
-confirm_turn : (v : World) (form : LogForm) (members : List ℕ) (e : Placed) (rest more : State → Confirmed) → ((s : State) → rest s ≡ more s) → (o : Outcome)
-    → confirm.by_outcome (in_form v form) members e rest o ≡ confirm.by_outcome v members e more o
-confirm_turn v form members e rest more is (Goes s) =
-    ap (λ (r : Confirmed). unless_past (exceeded s) (if is_for_members v members e.event then r else RefusesLine e.line)) (is s)
-confirm_turn v form members e rest more is _ = refl
+confirm_turn : (v : World) (form : LogForm) (before : State) (members : List ℕ) (e : Placed) (rest more : State → Confirmed) → ((s : State) → rest s ≡ more s) → (o : Outcome)
+    → confirm.by_outcome (in_form v form) before members e rest o ≡ confirm.by_outcome v before members e more o
+confirm_turn v form before members e rest more is (Goes s) =
+    ap (λ (r : Confirmed). unless_past (exceeded s) (if is_for_members v before members e.event then r else RefusesLine e.line)) (is s)
+confirm_turn v form before members e rest more is _ = refl
 
 confirm_form : (v : World) (form : LogForm) (s : State) (members : List ℕ) (right : Right) (es : List Placed) (ending : End)
     → events_confirm (in_form v form) s members right es ending ≡ events_confirm v s members right es ending
 confirm_form v form s members right [] ending = refl
 confirm_form v form s members right (e ∷ es) ending =
     let next : List ℕ = members_after members e.event.pid e.event.call e.event.res in
-    ap (λ (o : Outcome). confirm.by_outcome (in_form v form) members e (λ s'. events_confirm (in_form v form) s' next right es ending) o)
+    ap (λ (o : Outcome). confirm.by_outcome (in_form v form) s members e (λ s'. events_confirm (in_form v form) s' next right es ending) o)
     (outcome_form v form s e.event)
-    ∙ confirm_turn v form members e (λ s'. events_confirm (in_form v form) s' next right es ending)
+    ∙ confirm_turn v form s members e (λ s'. events_confirm (in_form v form) s' next right es ending)
     (λ s'. events_confirm v s' next right es ending) (λ s'. confirm_form v form s' next right es ending) (outcome v s e.event)
 
 -- ---- the answer
@@ -330,11 +336,11 @@ answer_form v form (ToConfirm q text) j s = query_form v form (ToConfirm q text)
 
 -- ---- what is given
 found_form : (v : World) (form : LogForm) (s : State) (members : List ℕ) (right : Right)
-    → first_found (each_may v) (in_form v form) s members right ≡ first_found (each_may v) v s members right
+    → first_found (permits v.filter) (in_form v form) s members right ≡ first_found (permits v.filter) v s members right
 unfolding WalkFindsTheSame walked
 found_form v form s members right =
-    walk_finds_the_same (each_may v) (in_form v form) s members right
-    ∙ sym (walk_finds_the_same (each_may v) v s members right)
+    walk_finds_the_same (permits v.filter) (in_form v form) s members right
+    ∙ sym (walk_finds_the_same (permits v.filter) v s members right)
 
 is_verdict_form : (v : World) (form : LogForm) (s : State) (members : List ℕ) (right : Right) (u : Verdict)
     → VerdictIn (in_form v form) s members right u → VerdictIn v s members right u

@@ -4,6 +4,7 @@ use Rattle.std.proofs.Common.{◌≡◌, ◌⊎◌, ℕ, Bool, List, sym, ◌∙
 use Rattle.std.specs.Prelude.{◌↔◌}
 use Rattle.cm_filter.specs.Filters.{permits}
 use Rattle.cm_filter.specs.declared.kind.CallKind.{CallKind}
+use Rattle.model_run.specs.Own.{common_filter}
 use Rattle.model_box.proofs.Monotone.{adds_more, meets_more}
 use Rattle.model_box.proofs.Starts.{covers_start, holds_start, number_back}
 use Rattle.model_box.proofs.Worlds.{state_fits}
@@ -33,7 +34,7 @@ use Rattle.model_verdict.proofs.Rounds.{swept_stands, swept_fits}
 use Rattle.model_verdict.proofs.Sweeps.{rule_back}
 use Rattle.model_verdict.proofs.Verdicts.{verdict_is_there, one_verdict}
 use Rattle.model_verdict.specs.Blame.{Blame, AtStart, ByTurn, IsBlame}
-use Rattle.model_verdict.specs.InWorld.{each_may, VerdictIn}
+use Rattle.model_verdict.specs.InWorld.{VerdictIn}
 use Rattle.model_verdict.specs.Least.{Test, Says, IsLeast}
 use Rattle.model_verdict.specs.Rows.{AreBounds, AreLow, RowsSaying, RowsSayEachTest, OneMeaningOneList}
 use Rattle.model_verdict.specs.Sweep.{Turn, rule_at, swept, SweepComesToLeast}
@@ -97,30 +98,30 @@ module _ (permitted : CallKind → Bool) (files : FileTable) (s : State) (member
 pub verdict_told : (w : World) (s : State) (members : List ℕ) (right : Right) → KeepsState s → (x : Told) × IsVerdictOn w s members right x
 unfolding VerdictIsThere RowsSayEachTest
 verdict_told w s members right keeps =
-    let there : (v : Verdict) × VerdictIn w s members right v = verdict_is_there (each_may w) (permits w.filter) w s members right keeps in
+    let there : (v : Verdict) × VerdictIn w s members right v = verdict_is_there w s members right keeps in
     by there.0 there.1
   where
     by : (v : Verdict) → VerdictIn w s members right v → (x : Told) × IsVerdictOn w s members right x
     by (No found) is = (TellsNo found, record { verdict = is; bounds = tt })
     by (Yes bounds) (none, least, apart) =
         let rows : RowsSaying s.spaces bounds
-        = rows_say_each_test s.spaces bounds (least_is_low (permits w.filter) w.files s members keeps bounds least) in (
+        = rows_say_each_test s.spaces bounds (least_is_low (permits (common_filter w s members)) w.files s members keeps bounds least) in (
           TellsYes rows.rows,
           record {
             verdict = (
               none,
-              same_least (permits w.filter) w.files s members keeps bounds (bounds_hold rows.rows) rows.says least,
-              same_apart (permits w.filter) w.files s members keeps bounds (bounds_hold rows.rows) rows.says right apart,
+              same_least (permits (common_filter w s members)) w.files s members keeps bounds (bounds_hold rows.rows) rows.says least,
+              same_apart (permits (common_filter w s members)) w.files s members keeps bounds (bounds_hold rows.rows) rows.says right apart,
             );
             bounds = rows.bounds;
           },
         )
     by (Undecided blame below) (none, met, is) =
         let rows : RowsSaying s.spaces below
-        = rows_say_each_test s.spaces below (below_is_low (permits w.filter) w.files s members keeps right blame below is) in (
+        = rows_say_each_test s.spaces below (below_is_low (permits (common_filter w s members)) w.files s members keeps right blame below is) in (
           TellsUndecided blame rows.rows,
           record {
-            verdict = (none, met, same_blame (permits w.filter) w.files s members keeps below (bounds_hold rows.rows) rows.says right blame is);
+            verdict = (none, met, same_blame (permits (common_filter w s members)) w.files s members keeps below (bounds_hold rows.rows) rows.says right blame is);
             bounds = rows.bounds;
           },
         )
@@ -136,7 +137,7 @@ pub told_once : (w : World) (s : State) (members : List ℕ) (right : Right) (x 
     → IsVerdictOn w s members right y → x ≡ y
 unfolding OneVerdict
 told_once w s members right x y is are =
-    by x y is are (one_verdict (each_may w) (permits w.filter) w s members right (verdict_in x) (verdict_in y) is.verdict are.verdict)
+    by x y is are (one_verdict w s members right (verdict_in x) (verdict_in y) is.verdict are.verdict)
   where
     by : (x y : Told) → IsVerdictOn w s members right x → IsVerdictOn w s members right y → AreOne (verdict_in x) (verdict_in y) → x ≡ y
     by (TellsNo found) (TellsNo found') is are same = ap TellsNo same
@@ -150,32 +151,32 @@ told_once w s members right x y is are =
 pub checked_there : (w : World) (s : State) (members : List ℕ) (right : Right) (rows : List BoxRow) → KeepsState s
     → (x : Checked) × IsChecked w s members right rows x
 checked_there w s members right rows keeps =
-    elim (first_lacking (permits w.filter) w.files s members keeps (rows_limit rows) (limit_high rows) (RowsHold rows) (rows_fine rows)) [
+    elim (first_lacking (permits (common_filter w s members)) w.files s members keeps (rows_limit rows) (limit_high rows) (RowsHold rows) (rows_fine rows)) [
       | inl lacks ↦ (NotStart (row_at lacks.0), subst (λ (y : ℕ). IsFirstLacking s members (RowsHold rows) y) (sym (number_back lacks.0)) lacks.1)
       | inr start ↦
           by_rules (covers_start s members (RowsHold rows) (state_fits s keeps) start)
-          (first_open (permits w.filter) w.files s members keeps (rows_limit rows) (limit_high rows) (RowsHold rows) (rows_fine rows))
+          (first_open (permits (common_filter w s members)) w.files s members keeps (rows_limit rows) (limit_high rows) (RowsHold rows) (rows_fine rows))
     ]
   where
-    by_right : Encloses (permits w.filter) w.files s members (RowsHold rows) → ((row : Row) × IsFirstMet s.spaces (RowsHold rows) right row) ⊎ (Meets s.spaces (RowsHold rows) right → ⊥)
+    by_right : Encloses (permits (common_filter w s members)) w.files s members (RowsHold rows) → ((row : Row) × IsFirstMet s.spaces (RowsHold rows) right row) ⊎ (Meets s.spaces (RowsHold rows) right → ⊥)
         → (x : Checked) × IsChecked w s members right rows x
     by_right encloses (inl first) = (MeetsRight first.0, record { encloses = encloses; first = first.1 })
     by_right encloses (inr apart) = (Holds, record { encloses = encloses; apart = apart })
 
-    by_rules : Covers s s members (RowsHold rows)
-        → ((rule : Rule) × (y : ℕ) × IsFirstOpen (permits w.filter) w.files s.spaces (RowsHold rows) rule y)
-        ⊎ Closed (permits w.filter) w.files s.spaces (RowsHold rows)
+    by_rules : Covers s members s members (RowsHold rows)
+        → ((rule : Rule) × (y : ℕ) × IsFirstOpen (permits (common_filter w s members)) w.files s.spaces (RowsHold rows) rule y)
+        ⊎ Closed (permits (common_filter w s members)) w.files s.spaces (RowsHold rows)
         → (x : Checked) × IsChecked w s members right rows x
     by_rules covers (inl (rule, y, first)) = (
       NotClosed (record { rule = rule; row = row_at y }),
       record {
         covers = covers;
-        first = subst (λ (n : ℕ). IsFirstOpen (permits w.filter) w.files s.spaces (RowsHold rows) rule n) (sym (number_back y)) first;
+        first = subst (λ (n : ℕ). IsFirstOpen (permits (common_filter w s members)) w.files s.spaces (RowsHold rows) rule n) (sym (number_back y)) first;
       },
     )
     by_rules covers (inr closed) =
         by_right (record { closed = closed; covers = covers })
-        (first_met (permits w.filter) w.files s members keeps (rows_limit rows) (limit_high rows) (RowsHold rows) (rows_fine rows) right)
+        (first_met (permits (common_filter w s members)) w.files s members keeps (rows_limit rows) (limit_high rows) (RowsHold rows) (rows_fine rows) right)
 
 -- ---- and one thing alone
 
@@ -188,11 +189,11 @@ module _ (w : World) (s : State) (members : List ℕ) (right : Right) (rows : Li
     | inr (inr same) ↦ same_row one other same
   ]
 
-  lacks_never : (row : Row) → IsFirstLacking s members (RowsHold rows) (row_number row) → Covers s s members (RowsHold rows) → ⊥
+  lacks_never : (row : Row) → IsFirstLacking s members (RowsHold rows) (row_number row) → Covers s members s members (RowsHold rows) → ⊥
   lacks_never row is covers = is.lacks (holds_start s members (RowsHold rows) covers (row_at (row_number row)) is.stands)
 
-  open_rows_once : (rule : Rule) (one other : Row) → IsFirstOpen (permits w.filter) w.files s.spaces (RowsHold rows) rule (row_number one)
-      → IsFirstOpen (permits w.filter) w.files s.spaces (RowsHold rows) rule (row_number other) → one ≡ other
+  open_rows_once : (rule : Rule) (one other : Row) → IsFirstOpen (permits (common_filter w s members)) w.files s.spaces (RowsHold rows) rule (row_number one)
+      → IsFirstOpen (permits (common_filter w s members)) w.files s.spaces (RowsHold rows) rule (row_number other) → one ≡ other
   open_rows_once rule one other is are = elim (two_orders (row_number one) (row_number other)) [
     | inl less ↦ absurd (is.row.unmet (are.row.earlier (row_number one) less))
     | inr (inl more) ↦ absurd (are.row.unmet (is.row.earlier (row_number other) more))
@@ -202,8 +203,8 @@ module _ (w : World) (s : State) (members : List ℕ) (right : Right) (rows : Li
   one_rule : (one other : Rule) → rule_number one ≡ rule_number other → one ≡ other
   one_rule one other same = sym (rule_back one) ∙ ap rule_at same ∙ rule_back other
 
-  open_rules_once : (one other : Rule) (y z : ℕ) → IsFirstOpen (permits w.filter) w.files s.spaces (RowsHold rows) one y
-      → IsFirstOpen (permits w.filter) w.files s.spaces (RowsHold rows) other z → one ≡ other
+  open_rules_once : (one other : Rule) (y z : ℕ) → IsFirstOpen (permits (common_filter w s members)) w.files s.spaces (RowsHold rows) one y
+      → IsFirstOpen (permits (common_filter w s members)) w.files s.spaces (RowsHold rows) other z → one ≡ other
   open_rules_once one other y z is are = elim (two_orders (rule_number one) (rule_number other)) [
     | inl less ↦ absurd (is.row.unmet (are.earlier one less (row_at y) is.row.stands))
     | inr (inl more) ↦ absurd (are.row.unmet (is.earlier other more (row_at z) are.row.stands))
@@ -215,10 +216,10 @@ module _ (w : World) (s : State) (members : List ℕ) (right : Right) (rows : Li
       let rule : one.rule ≡ other.rule = open_rules_once one.rule other.rule (row_number one.row) (row_number other.row) is.first are.first in
       let row : one.row ≡ other.row
       = open_rows_once other.rule one.row other.row
-      (subst (λ (r : Rule). IsFirstOpen (permits w.filter) w.files s.spaces (RowsHold rows) r (row_number one.row)) rule is.first) are.first in
+      (subst (λ (r : Rule). IsFirstOpen (permits (common_filter w s members)) w.files s.spaces (RowsHold rows) r (row_number one.row)) rule is.first) are.first in
       ap₂ (λ (r : Rule) (at : Row). record { rule = r; row = at }) rule row
 
-  open_never : (turn : Turn) → IsFirstOpenIn w s members rows turn → Closed (permits w.filter) w.files s.spaces (RowsHold rows) → ⊥
+  open_never : (turn : Turn) → IsFirstOpenIn w s members rows turn → Closed (permits (common_filter w s members)) w.files s.spaces (RowsHold rows) → ⊥
   open_never turn is closed = is.first.row.unmet (closed turn.rule (row_at (row_number turn.row)) is.first.row.stands)
 
   met_once : (one other : Row) → IsFirstMet s.spaces (RowsHold rows) right one → IsFirstMet s.spaces (RowsHold rows) right other → one ≡ other

@@ -23,6 +23,7 @@ pub mod WholeCases
 pub mod AuditCases
 pub mod SetIdCases
 pub mod CapReportCases
+pub mod FilterReportCases
 pub mod BirthReportCases
 pub mod SpaceReportCases
 pub mod FileReportCases

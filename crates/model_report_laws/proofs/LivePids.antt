@@ -10,9 +10,10 @@ use Rattle.model_cred.specs.Process.{Process, State, is_pid, insert_process, pro
 use Rattle.model_cred.specs.Space.{Spaces}
 use Rattle.model_cred.specs.World.{World}
 use Rattle.model_drill.proofs.Callers.{HasPid}
-use Rattle.model_laws.proofs.StepParts.{Stepped, Answers, stepped}
+use Rattle.model_laws.proofs.StepParts.{Stepped, Answers, stepped, by_filter}
 use Rattle.model_rules.specs.Namespaces.{clone_user}
-use Rattle.model_run.specs.Ruling.{Ruling, ruling, birth, birth_unless, clone_child, fork_child, reply_to, spaces_left, state_left}
+use Rattle.model_run.specs.Ruling.{Ruling, ruling, birth, birth_unless, clone_child, fork_child, reply_to, spaces_left}
+use Rattle.model_run.specs.Ruling.{state_left, permitted_ruling, filter_left}
 use Rattle.model_run.specs.Step.{Step, Run, told_child}
 
 -- the pid of each live process is one
@@ -37,15 +38,19 @@ call_has : (w : World) (s : State) (p : Process) (call : Call) → HavePids s �
     → HavePids (state_left s p call (reply_to w s p call))
 call_has w s p call have is =
     all_put HasPid
-    (record p { space = (reply_to w s p call).space; cred = (reply_to w s p call).cred }) s.processes is have
+    (record p { space = (reply_to w s p call).space; cred = (reply_to w s p call).cred; filter = filter_left p call }) s.processes is have
+
+permitted_has : (w : World) (s : State) (p : Process) (call : Call) (n : ℕ) → HavePids s → HasPid p
+    → HavePids (permitted_ruling w s p call n).state
+permitted_has w s p Fork n have is = born_has s (fork_child p n) s.spaces have
+permitted_has w s p CloneUser n have is =
+    cloned_has (clone_user s.spaces p.space p.cred) s (clone_child s.spaces p n) (spaces_left s p CloneUser) have
+permitted_has w s p Exit n have is = all_without HasPid p s.processes (λ q f kept. kept) have
+permitted_has w s p call n have is = call_has w s p call have is
 
 ruling_has : (w : World) (s : State) (p : Process) (call : Call) (n : ℕ) → HavePids s → HasPid p
     → HavePids (ruling w s p call n).state
-ruling_has w s p Fork n have is = born_has s (fork_child p n) s.spaces have
-ruling_has w s p CloneUser n have is =
-    cloned_has (clone_user s.spaces p.space p.cred) s (clone_child s.spaces p n) (spaces_left s p CloneUser) have
-ruling_has w s p Exit n have is = all_without HasPid p s.processes (λ q f kept. kept) have
-ruling_has w s p call n have is = call_has w s p call have is
+ruling_has w s p call n have is = by_filter (λ r. HavePids r.state) w s p call n have (permitted_has w s p call n have is)
 
 answers_have : (w : World) (s : State) (e : Event) (s' : State) (p : Process) → HavePids s
     → process_at s.processes e.pid ≡ Some p

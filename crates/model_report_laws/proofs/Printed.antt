@@ -35,10 +35,11 @@ use Rattle.model_plans.specs.PlanRun.{Found}
 use Rattle.model_report_laws.proofs.Answering.{check_holds, confirms_so}
 use Rattle.model_report_laws.proofs.RunEvents.{run_reads_back}
 use Rattle.model_report_laws.proofs.RunLimits.{found_within, accepted_within}
+use Rattle.model_run.specs.Own.{common_filter}
 use Rattle.model_run.specs.Later.{LaterRun}
 use Rattle.model_run.specs.Within.{IsWithin, RunWithin}
 use Rattle.model_text.specs.Written.{placed_from}
-use Rattle.model_verdict.specs.InWorld.{each_may, end_in, FirstRunIn}
+use Rattle.model_verdict.specs.InWorld.{end_in, FirstRunIn}
 use Rattle.model_report_laws.proofs.Audits.{answer_alone}
 use Rattle.model_report_laws.proofs.Judging.{least_is_low}
 use Rattle.model_report_laws.proofs.Statuses.{accepted_fits, gives_after, first_of, second_of}
@@ -136,7 +137,7 @@ printed_certificate_holds bytes other world log pid right text j k gives same sh
     = subst (λ (q : Query). AsksVerdict q is.world is.state shows.asking.process shows.asking.right)
     (sym (asked_is world log pid right bytes shows.asking)) shows.asking.asks in
     let low : AreLow is.state.spaces (tested (bounds_hold shows.rows))
-    = least_is_low (permits is.world.filter) is.world.files is.state (family is.state shows.asking.process.pid)
+    = least_is_low (permits (common_filter is.world is.state (family is.state shows.asking.process.pid))) is.world.files is.state (family is.state shows.asking.process.pid)
     (accepted_fits (audit_of world log pid right) bytes is).keeps (bounds_hold shows.rows) shows.least in
     let reads : ReadsAs is.state (other text) (Ok shows.rows)
     = record {
@@ -169,7 +170,7 @@ found_ends w s members right found within run =
           later = subst (λ (es : List Event). LaterRun w s members es end members) (sym (events_placed 1 found.run)) run.later;
           within =
               subst (λ (es : List Event). RunWithin w s es end) (sym (events_placed 1 found.run))
-              (found_within (each_may w) w s members right found within run.first);
+              (found_within (permits w.filter) w s members right found within run.first);
         };
         ends = refl;
       };

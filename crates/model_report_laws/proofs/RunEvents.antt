@@ -1,6 +1,6 @@
 -- The events of the runs of plans are writable: so the lines of the run that an audit tells are read again as that run.
-use Rattle.std.proofs.Common.{◌≡◌, ℕ, ◌<◌, ◌≤◌, ◌==◌, true, false, List, [], ◌∷◌, ◌++◌, length, map, Option, Some, None}
-use Rattle.std.proofs.Common.{IfSome, IsTrue, All, refl, sym, ap, ◌∙◌, subst, arith}
+use Rattle.std.proofs.Common.{◌≡◌, ℕ, ◌<◌, ◌≤◌, ◌==◌, false, List, [], ◌∷◌, ◌++◌, length, map}
+use Rattle.std.proofs.Common.{Option, Some, None, IfSome, IsTrue, All, refl, sym, ap, ◌∙◌, subst, arith, Bool}
 use Rattle.std.proofs.lemmas.Bool.{cond_both, ltb-true}
 use Rattle.std.proofs.lemmas.List.Elements.{All-nil, All-cons, All-weaker}
 use Rattle.cm_base.specs.CapSet.{IsCapSet}
@@ -9,6 +9,8 @@ use Rattle.cm_base.specs.Limits.{greatest_number}
 use Rattle.cm_base.specs.declared.errno.Errno.TheVariants.{EINVAL, EPERM}
 use Rattle.cm_base.specs.declared.limited.Limited.TheVariants as limit
 use Rattle.cm_base.specs.declared.res.FileRef.{FileRef}
+use Rattle.cm_filter.specs.declared.kind.CallKind.{CallKind}
+use Rattle.cm_filter.specs.Filters.{permits}
 use Rattle.model_cred.proofs.Lookups.{pid_of_found}
 use Rattle.model_cred.proofs.Orders.{all_found}
 use Rattle.model_cred.specs.Call.{Call, SetUid, SetReUid, SetResUid, SetGid, SetReGid, SetResGid, SetGroups, CapSet, SetNs, Exec, Event, kind_of}
@@ -25,13 +27,13 @@ use Rattle.model_drill.proofs.Answers.{plain_refused, plain_uids, up_fits}
 use Rattle.model_laws.proofs.Keeping.{step_keeps}
 use Rattle.model_laws.proofs.Owning.{own_step}
 use Rattle.model_laws.specs.Runs.{StepKeeps}
-use Rattle.model_plans.proofs.Calls.{Each, call_named, call_plain, found_call}
+use Rattle.model_plans.proofs.Calls.{Each, call_named, found_call}
 use Rattle.model_plans.proofs.Laters.{MoveStands, MovesStand, all_plans, join_stands}
 use Rattle.model_plans.proofs.Lists.{all_at}
-use Rattle.model_plans.proofs.Walks.{own_alone}
-use Rattle.model_plans.specs.Changes.{changes_caller_alone}
+use Rattle.model_plans.proofs.Walks.{IsOwn, own_alone, call_own}
 use Rattle.model_plans.specs.Firsts.{IsFirst}
-use Rattle.model_plans.specs.Move.{MayCall, Move, Raise, BecomeZero, BecomeSought, BecomeGroup, TakeGroup, RunFile, JoinSpace, Seat, Setting, seat_of}
+use Rattle.model_plans.specs.Move.{Move, Raise, BecomeZero, BecomeSought, BecomeGroup, TakeGroup, RunFile}
+use Rattle.model_plans.specs.Move.{JoinSpace, Seat, Setting, seat_of}
 use Rattle.model_plans.specs.Move.{becoming, call_of, calls_of, calls_with, gid_calls, group_calls, raising, sought_gid}
 use Rattle.model_plans.specs.Move.{sought_uid, taking_group, uid_calls}
 use Rattle.model_plans.specs.Plan.{Plan, plans}
@@ -62,9 +64,9 @@ use Rattle.model_text.specs.Line.{groups_fit}
 use Rattle.model_text.specs.Print.{event_text}
 use Rattle.model_text.specs.Reading.{events_of, script_reading}
 use Rattle.model_text.specs.WorldText.{Reads, world_text}
-use Rattle.model_text.specs.Written.{DeclaredNamesKeep, IsInRange, IsWritable, KeepsNames, LogsReadBack, MayAnswer, events_text}
+use Rattle.model_text.specs.Written.{DeclaredNamesKeep, IsInRange, IsWritable, KeepsNames, LogsReadBack}
+use Rattle.model_text.specs.Written.{InstallsFilter, MayAnswer, events_text}
 use Rattle.model_verdict.proofs.MapsBack.{map_is_tidy}
-use Rattle.model_verdict.specs.InWorld.{each_may}
 
 -- ---- answers
 -- Joining a space is done or refused.
@@ -78,6 +80,7 @@ record IsSpelled (w : World) (call : Call) : Type 0 where
   fit : All (IsInRange w) (arguments_of call)
   few : length (arguments_of call) ≤ 3
   groups : IsTrue (groups_fit call)
+  filter : InstallsFilter call
   answers : (spaces : Spaces) (at : ℕ) (c : Credential) → MayAnswer (kind_of call) (reply w.files spaces at c call).res
 
 minus_one_fits : Fits minus_one
@@ -94,14 +97,20 @@ module _ (w : World) where
   three_fit a b c is are too = All-cons (IsInRange w) a (b ∷ c ∷ []) is (two_fit b c are too)
 
   spelled : (call : Call) → All (IsInRange w) (arguments_of call) → length (arguments_of call) ≤ 3
-      → IsTrue (groups_fit call)
+      → IsTrue (groups_fit call) → InstallsFilter call
       → ((spaces : Spaces) (at : ℕ) (c : Credential) → MayAnswer (kind_of call) (reply w.files spaces at c call).res)
       → IsSpelled w call
-  spelled call fit few groups answers = record { fit = fit; few = few; groups = groups; answers = answers }
+  spelled call fit few groups filter answers = record {
+    fit = fit;
+    few = few;
+    groups = groups;
+    filter = filter;
+    answers = answers;
+  }
 
   capset_spelled : (e p i : ℕ) → IsCapSet e → IsCapSet p → IsCapSet i → IsSpelled w (CapSet e p i)
   capset_spelled e p i first second third =
-      spelled (CapSet e p i) (three_fit (Set e) (Set p) (Set i) first second third) (omega arith) refl
+      spelled (CapSet e p i) (three_fit (Set e) (Set p) (Set i) first second third) (omega arith) refl tt
       (λ spaces at c. (plain_capset c e p i).outcome)
 
   -- the calls that set one id: the other ids that they can name stay
@@ -113,13 +122,13 @@ module _ (w : World) where
 
   uid_spelled : (id : ℕ) → Fits id → Each (IsSpelled w) (uid_calls id)
   uid_spelled id fits = (
-    spelled (SetResUid minus_one id minus_one) (one_of_three id fits) (omega arith) refl
+    spelled (SetResUid minus_one id minus_one) (one_of_three id fits) (omega arith) refl tt
         (λ spaces at c. (plain_uids (space_of spaces at) c _).outcome),
     (
-      spelled (SetReUid minus_one id) (one_of_two id fits) (omega arith) refl
+      spelled (SetReUid minus_one id) (one_of_two id fits) (omega arith) refl tt
           (λ spaces at c. (plain_uids (space_of spaces at) c _).outcome),
       (
-        spelled (SetUid id) (one_fits (Id id) fits) (omega arith) refl
+        spelled (SetUid id) (one_fits (Id id) fits) (omega arith) refl tt
             (λ spaces at c. (plain_uids (space_of spaces at) c _).outcome),
         tt,
       ),
@@ -128,29 +137,29 @@ module _ (w : World) where
 
   gid_spelled : (id : ℕ) → Fits id → Each (IsSpelled w) (gid_calls id)
   gid_spelled id fits = (
-    spelled (SetResGid minus_one id minus_one) (one_of_three id fits) (omega arith) refl
+    spelled (SetResGid minus_one id minus_one) (one_of_three id fits) (omega arith) refl tt
         (λ spaces at c. (plain_gids c _).outcome),
     (
-      spelled (SetReGid minus_one id) (one_of_two id fits) (omega arith) refl (λ spaces at c. (plain_gids c _).outcome),
-      (spelled (SetGid id) (one_fits (Id id) fits) (omega arith) refl (λ spaces at c. (plain_gids c _).outcome), tt),
+      spelled (SetReGid minus_one id) (one_of_two id fits) (omega arith) refl tt (λ spaces at c. (plain_gids c _).outcome),
+      (spelled (SetGid id) (one_fits (Id id) fits) (omega arith) refl tt (λ spaces at c. (plain_gids c _).outcome), tt),
     ),
   )
 
   group_spelled : (id : ℕ) → Fits id → Each (IsSpelled w) (group_calls id)
   group_spelled id fits = (
-    spelled (SetGroups (id ∷ [])) (one_fits (Id id) fits) (omega arith) refl
+    spelled (SetGroups (id ∷ [])) (one_fits (Id id) fits) (omega arith) refl tt
         (λ spaces at c. (plain_groups (space_of spaces at) c (id ∷ [])).outcome),
     tt,
   )
 
   exec_spelled : (file : FileRef) → IsDeclared w.files file → IsSpelled w (Exec file)
   exec_spelled file there =
-      spelled (Exec file) (one_fits (File file) there) (omega arith) refl
+      spelled (Exec file) (one_fits (File file) there) (omega arith) refl tt
       (λ spaces at c. (plain_exec w.files spaces at c file).outcome)
 
   join_spelled : (n : ℕ) → Fits n → IsSpelled w (SetNs n)
   join_spelled n fits =
-      spelled (SetNs n) (one_fits (ASpace n) fits) (omega arith) refl
+      spelled (SetNs n) (one_fits (ASpace n) fits) (omega arith) refl tt
       (λ spaces at c. (plain_join spaces at c n).outcome)
 
 -- ---- inside ids
@@ -232,19 +241,19 @@ record IsBrief (w : World) (e : Event) : Type 0 where
   can : IsWritable w e
   few : length (arguments_of e.call) ≤ 3
 
-module _ (permitted : MayCall) (w : World) (right : Right) (pid : ℕ) (has : KeepsFiles w.files) where
+module _ (permitted : CallKind → Bool) (w : World) (right : Right) (pid : ℕ) (has : KeepsFiles w.files) where
   -- the events are such
   abbrev AreBrief : PlanRun → Type 0
   AreBrief made = All (IsBrief w) made.events
 
   -- What is known of a call: it changes its caller alone, names spaces that stand, and can be written.
-  record IsGood (s : State) (call : Call) : Type 0 where
-    alone : changes_caller_alone call ≡ true
+  record IsGood (s : State) (p : Process) (call : Call) : Type 0 where
+    alone : IsOwn p call
     named : names_no_space s.spaces call ≡ false
     spelled : IsSpelled w call
 
   event_brief : (s : State) (p : Process) (call : Call) → IsReady s → process_at s.processes pid ≡ Some p
-      → IsGood s call
+      → IsGood s p call
       → IsBrief w (record { pid = pid; call = call; res = (own w s p call).res })
   event_brief s p call ready lives good =
       let of_pid : HasPid p = all_found HasPid s.processes pid p ready.pids lives in
@@ -255,6 +264,7 @@ module _ (permitted : MayCall) (w : World) (right : Right) (pid : ℕ) (has : Ke
           pid = subst (λ (n : ℕ). IsTrue (is_pid n)) (pid_of_found s.processes pid p lives) of_pid;
           arguments = good.spelled.fit;
           groups = good.spelled.groups;
+          filter = good.spelled.filter;
           result = subst (MayAnswer (kind_of call)) (sym answers) (good.spelled.answers s.spaces p.space p.cred);
         };
         few = good.spelled.few;
@@ -262,7 +272,7 @@ module _ (permitted : MayCall) (w : World) (right : Right) (pid : ℕ) (has : Ke
 
   -- the state after a call is ready too, and has the same spaces
   ready_after : (s : State) (p : Process) (call : Call) → IsReady s → process_at s.processes pid ≡ Some p
-      → IsGood s call
+      → IsGood s p call
       → IsReady (own w s p call).state × ((own w s p call).state.spaces ≡ s.spaces)
   unfolding StepKeeps
   ready_after s p call ready lives good =
@@ -281,12 +291,12 @@ module _ (permitted : MayCall) (w : World) (right : Right) (pid : ℕ) (has : Ke
   -- an optional call, and more moves, of which this is known already
   call_brief : (s : State) (p : Process) (moves : List Move) (o : Option Call) → IsReady s
       → process_at s.processes pid ≡ Some p
-      → ((call : Call) → o ≡ Some call → IsGood s call)
+      → ((call : Call) → o ≡ Some call → IsGood s p call)
       → ((t : State) → IsReady t → t.spaces ≡ s.spaces → AreBrief (moves_made permitted w t right pid moves))
       → AreBrief (then_made permitted w right pid (call_made w s pid p o) moves)
   call_brief s p moves None ready lives good rest = rest s ready refl
   call_brief s p moves (Some call) ready lives good rest =
-      let is : IsGood s call = good call refl in
+      let is : IsGood s p call = good call refl in
       let next : IsReady (own w s p call).state × ((own w s p call).state.spaces ≡ s.spaces) =
       ready_after s p call ready lives is in
       All-cons (IsBrief w) (record { pid = pid; call = call; res = (own w s p call).res })
@@ -301,9 +311,9 @@ module _ (permitted : MayCall) (w : World) (right : Right) (pid : ℕ) (has : Ke
       → AreBrief (then_made permitted w right pid (move_made permitted w s right pid o move) moves)
   move_brief s None move moves ready lives there rest = rest s ready refl
   move_brief s (Some p) move moves ready lives there rest =
-      let q : Setting = setting_in permitted w s right pid in
+      let q : Setting = setting_in permitted w s right p in
       call_brief s p moves (call_of q (seat_of p) move) ready lives (λ call is. record {
-        alone = (call_plain q (seat_of p) move call is).0;
+        alone = call_own permitted w s right p move call is;
         named = call_named q (seat_of p) move call (join_stands w.files s.spaces move there) is;
         spelled =
             call_spelled w q (seat_of p) move call ready.keeps.spaces
@@ -320,7 +330,7 @@ module _ (permitted : MayCall) (w : World) (right : Right) (pid : ℕ) (has : Ke
       (subst (λ (spaces : Spaces). MovesStand w.files spaces moves) (sym same) stand.1))
 
 -- ---- the run that is found
-found_brief : (permitted : MayCall) (w : World) (s : State) (members : List ℕ) (right : Right) (found : Found)
+found_brief : (permitted : CallKind → Bool) (w : World) (s : State) (members : List ℕ) (right : Right) (found : Found)
     → KeepsFiles w.files → IsReady s
     → IsFirst permitted w s members right found → All (IsBrief w) found.run
 found_brief permitted w s members right found has ready is =
@@ -366,7 +376,7 @@ run_reads_back words bytes lines shows =
     let text : List ℕ = bytes is.comes.begins.names.world in
     let reads : world_text text ≡ Reads w = is.comes.begins.names.reads in
     let names : KeepsNames w = declared_names_keep text w reads in
-    let brief : All (IsBrief w) shows.found.run = found_brief (each_may w) w is.state _ shows.asking.right shows.found
+    let brief : All (IsBrief w) shows.found.run = found_brief (permits w.filter) w is.state _ shows.asking.right shows.found
     (start_keeps text w reads).files
     (accepted_ready words bytes is) shows.run.first in
     ap (script_reading w) (event_bytes w shows.found.run)

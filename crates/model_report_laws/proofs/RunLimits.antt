@@ -1,24 +1,24 @@
 -- The run of a plan stays within the limits of live processes and of spaces: its calls change their caller alone. So from the
 -- state after an accepted log, which is within them.
-use Rattle.std.proofs.Common.{◌≡◌, ℕ, ◌≤◌, Bool, true, false, cond, nat_lt, length, List, [], ◌∷◌, Option, Some, None, refl, sym, ◌∙◌, ap, ap₂, subst, All}
+use Rattle.std.proofs.Common.{◌≡◌, ℕ, ◌≤◌, Bool, false, cond, nat_lt, length, List, [], ◌∷◌, Option, Some, None, refl, sym, ◌∙◌, ap, ap₂, subst, All}
 use Rattle.std.proofs.lemmas.Bool.{le-ltb}
 use Rattle.cm_base.specs.declared.limited.Limited.{Limited}
 use Rattle.cm_base.specs.declared.limited.Limited.TheVariants as limit
 use Rattle.cm_base.specs.Limited.{limit_number}
+use Rattle.cm_filter.specs.declared.kind.CallKind.{CallKind}
 use Rattle.model_cred.specs.Call.{Call, Event}
 use Rattle.model_cred.specs.Process.{Process, State, process_at}
 use Rattle.model_cred.specs.Right.{Right}
 use Rattle.model_cred.specs.Space.{Spaces}
 use Rattle.model_cred.specs.World.{World}
 use Rattle.model_laws.proofs.Owning.{own_step}
-use Rattle.model_plans.proofs.Calls.{call_plain, call_named}
+use Rattle.model_plans.proofs.Calls.{call_named}
 use Rattle.model_plans.proofs.Laters.{MovesStand, MoveStands, join_stands, all_plans}
 use Rattle.model_plans.proofs.Lists.{all_at}
 use Rattle.model_plans.proofs.Others.{put_length}
-use Rattle.model_plans.proofs.Walks.{own_alone}
-use Rattle.model_plans.specs.Changes.{changes_caller_alone}
+use Rattle.model_plans.proofs.Walks.{IsOwn, own_alone, call_own}
 use Rattle.model_plans.specs.Firsts.{IsFirst}
-use Rattle.model_plans.specs.Move.{seat_of, MayCall, Setting, Move, call_of}
+use Rattle.model_plans.specs.Move.{seat_of, Setting, Move, call_of}
 use Rattle.model_plans.specs.Plan.{Plan, plans}
 use Rattle.model_plans.specs.PlanRun.{PlanRun, Found, setting_in, moves_made, move_made, call_made, plan_run}
 use Rattle.model_plans.specs.Shortcuts.{then_made}
@@ -39,18 +39,18 @@ still_within : (s t : State) → length t.processes ≡ length s.processes → t
 still_within s t live spaces within =
     ap₂ (λ (m : ℕ) (all : Spaces). exceeded_by m (length all)) live spaces ∙ within
 
-module _ (permitted : MayCall) (w : World) (right : Right) (pid : ℕ) where
+module _ (permitted : CallKind → Bool) (w : World) (right : Right) (pid : ℕ) where
   -- what is made is such a run
   abbrev StaysWithin : State → PlanRun → Type 0
   StaysWithin s made = RunWithin w s made.events made.state
 
   call_within : (s : State) (p : Process) (moves : List Move) (o : Option Call) → process_at s.processes pid ≡ Some p
-      → ((call : Call) → o ≡ Some call → (changes_caller_alone call ≡ true) × (names_no_space s.spaces call ≡ false))
+      → ((call : Call) → o ≡ Some call → IsOwn p call × (names_no_space s.spaces call ≡ false))
       → IsWithin s → ((t : State) → t.spaces ≡ s.spaces → IsWithin t → StaysWithin t (moves_made permitted w t right pid moves))
       → StaysWithin s (then_made permitted w right pid (call_made w s pid p o) moves)
   call_within s p moves None lives plain within rest = rest s refl within
   call_within s p moves (Some call) lives plain within rest =
-      let is : (changes_caller_alone call ≡ true) × (names_no_space s.spaces call ≡ false) = plain call refl in
+      let is : IsOwn p call × (names_no_space s.spaces call ≡ false) = plain call refl in
       let r : Ruling = own w s p call in
       let alone = own_alone w s p call is.0 in
       let spaces : r.state.spaces ≡ s.spaces = ap (λ (x : Ruling). x.state.spaces) alone in
@@ -69,9 +69,9 @@ module _ (permitted : MayCall) (w : World) (right : Right) (pid : ℕ) where
       → StaysWithin s (then_made permitted w right pid (move_made permitted w s right pid o move) moves)
   move_within s None move moves lives there within rest = rest s refl within
   move_within s (Some p) move moves lives there within rest =
-      let q : Setting = setting_in permitted w s right pid in
+      let q : Setting = setting_in permitted w s right p in
       call_within s p moves (call_of q (seat_of p) move) lives
-      (λ call is. ((call_plain q (seat_of p) move call is).0, call_named q (seat_of p) move call (join_stands w.files s.spaces move there) is))
+      (λ call is. (call_own permitted w s right p move call is, call_named q (seat_of p) move call (join_stands w.files s.spaces move there) is))
       within rest
 
   moves_within : (s : State) (moves : List Move) → MovesStand w.files s.spaces moves → IsWithin s
@@ -82,7 +82,7 @@ module _ (permitted : MayCall) (w : World) (right : Right) (pid : ℕ) where
       (λ t same next. moves_within t moves (subst (λ (spaces : Spaces). MovesStand w.files spaces moves) (sym same) stand.1) next)
 
 -- the run that is found is such a run
-pub found_within : (permitted : MayCall) (w : World) (s : State) (members : List ℕ) (right : Right) (found : Found) → IsWithin s
+pub found_within : (permitted : CallKind → Bool) (w : World) (s : State) (members : List ℕ) (right : Right) (found : Found) → IsWithin s
     → (is : IsFirst permitted w s members right found) → RunWithin w s found.run (plan_run permitted w s right is.plan).state
 found_within permitted w s members right found within is =
     let Stays : Plan → Type 0 = λ plan. RunWithin w s (plan_run permitted w s right plan).events (plan_run permitted w s right plan).state in

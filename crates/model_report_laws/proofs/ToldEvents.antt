@@ -6,7 +6,8 @@ use Rattle.std.proofs.lemmas.List.Elements.{All-nil, All-cons, All-head, All-tai
 use Rattle.cm_base.specs.Limited.{limit_number}
 use Rattle.cm_base.specs.Limits.{greatest_number}
 use Rattle.cm_base.specs.declared.limited.Limited.TheVariants as limit
-use Rattle.model_cred.specs.Call.{Call, Event, SetGroups, SetNs, WriteUidMap, WriteGidMap, WriteSetgroups}
+use Rattle.cm_filter.specs.Filters.{excluded_kinds}
+use Rattle.model_cred.specs.Call.{Call, Event, Install, SetGroups, SetNs, WriteUidMap, WriteGidMap, WriteSetgroups}
 use Rattle.model_cred.specs.Process.{State}
 use Rattle.model_cred.specs.Space.{Spaces, stands}
 use Rattle.model_cred.specs.World.{World}
@@ -20,7 +21,7 @@ use Rattle.model_report_laws.proofs.LogEvents.{line_read_back}
 use Rattle.model_report_laws.specs.Laws.{LineStandsFor, ToldEventsReadBack, told_in}
 use Rattle.model_run.specs.Step.{Step, names_no_space}
 use Rattle.model_run.specs.Within.{RunWithin}
-use Rattle.model_strace.proofs.NamedSpaces.{EventWithin, ids_name_none, spaces_more, triples_name_none}
+use Rattle.model_strace.proofs.NamedSpaces.{EventWithin, ids_name_none, kinds_name_none, spaces_more, triples_name_none}
 use Rattle.model_text.proofs.Starts.{start_spaces}
 use Rattle.model_text.proofs.ToldEvents.{SpacesWithin}
 use Rattle.model_text.specs.Arguments.{arguments_of}
@@ -42,6 +43,7 @@ named_low spaces (WriteUidMap n given) named =
 named_low spaces (WriteGidMap n given) named =
     (stands_low spaces n (stands spaces n) refl named, triples_name_none (length spaces) given)
 named_low spaces (WriteSetgroups n deny) named = (stands_low spaces n (stands spaces n) refl named, tt)
+named_low spaces (Install more) named = kinds_name_none (length spaces) (excluded_kinds more)
 named_low spaces _ named = tt
 
 -- those of a step from a state with few spaces have numbers of 32 bits

@@ -4,7 +4,6 @@ use Rattle.std.specs.Prelude.{◌≡◌, ◌≤◌, ◌⊎◌, ℕ, codes, lengt
 use Rattle.cm_base.specs.declared.limited.Limited.TheVariants as limit
 use Rattle.cm_base.specs.declared.status.Status.TheVariants as status
 use Rattle.cm_base.specs.Limited.{limit_number}
-use Rattle.cm_filter.specs.Filters.{permits}
 use Rattle.model_box.specs.Bounds.{BoxRow, bounds_hold}
 use Rattle.model_box.specs.Laws.{tested}
 use Rattle.model_box.specs.Meets.{Meets}
@@ -28,7 +27,7 @@ use Rattle.model_text.specs.Reading.{AtEnd, script_reading}
 use Rattle.model_text.specs.Written.{placed_from}
 use Rattle.model_verdict.specs.Blame.{Blame}
 use Rattle.model_verdict.specs.InWorld.{ExcludedIn, OpenIn, SettledIn, FirstRunIn, BlameIn}
-use Rattle.model_verdict.specs.Least.{IsLeast}
+use Rattle.model_verdict.specs.Decides.{LeastIn}
 use Rattle.model_verdict.specs.Rows.{AreBounds}
 
 -- The words ask this query, whose log is accepted, about this right of the family of this process.
@@ -74,8 +73,7 @@ pub record ShowsLeast (words : List (List ℕ)) (bytes : List ℕ → List ℕ) 
   pub asking : Asking words bytes
   pub rows : List BoxRow
   pub bounds : AreBounds asking.accepted.state.spaces rows
-  pub least : IsLeast (permits asking.accepted.world.filter) asking.accepted.world.files asking.accepted.state
-      (members_of words bytes asking) (bounds_hold rows)
+  pub least : LeastIn asking.accepted.world asking.accepted.state (members_of words bytes asking) (bounds_hold rows)
   pub apart : Meets asking.accepted.state.spaces (tested (bounds_hold rows)) asking.right → ⊥
   pub before : List ReportLine
   pub last : lines ≡ before ++ Plain (codes "yes") ∷ certificate_line rows ∷ []

@@ -12,4 +12,5 @@ pub mod FileView
 pub mod Exec
 pub mod Namespaces
 pub mod Maps
+pub mod Install
 pub mod Reply

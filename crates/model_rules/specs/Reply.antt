@@ -1,18 +1,20 @@
--- What the rules answer a caller, what becomes of the caller, and what becomes of the spaces. What births and exits
--- answer, and what they do to the processes, stands apart (it depends on which pids are alive).
+-- What the rules answer a caller, what becomes of the caller and of its filter, and what becomes of the spaces. What
+-- births and exits answer, and what they do to the processes, stands apart (it depends on which pids are alive).
 use Rattle.std.specs.Prelude.{ℕ, length, ◌∷◌}
 use Rattle.cm_base.specs.declared.res.Res.{Res}
 use Rattle.cm_base.specs.declared.res.Res.TheVariants.{Done}
+use Rattle.cm_filter.specs.Filters.{Filter}
 use Rattle.model_cred.specs.Call.{Call, SetUid, SetReUid, SetResUid, SetFsUid, SetGid, SetReGid, SetResGid, SetFsGid}
 use Rattle.model_cred.specs.Call.{SetGroups, CapSet, BsetDrop, AmbRaise, AmbLower, AmbClear, SecureBits, KeepCaps}
 use Rattle.model_cred.specs.Call.{NoNewPrivs, Fork, CloneUser, Unshare, SetNs, WriteUidMap, WriteGidMap, WriteSetgroups}
-use Rattle.model_cred.specs.Call.{Exec, Exit}
+use Rattle.model_cred.specs.Call.{Exec, Exit, Install}
 use Rattle.model_cred.specs.Credential.{Credential}
 use Rattle.model_cred.specs.Files.{FileTable}
 use Rattle.model_cred.specs.Space.{Spaces, space_of}
 use Rattle.model_rules.specs.Answer.{Answer}
 use Rattle.model_rules.specs.CapCalls.{capset, bset_drop, amb_raise, amb_lower, amb_clear, secure_bits, set_keep_caps, set_no_new_privs}
 use Rattle.model_rules.specs.Exec.{execve}
+use Rattle.model_rules.specs.Install.{install, installed}
 use Rattle.model_rules.specs.Maps.{Written, write_uid_map, write_gid_map, write_setgroups}
 use Rattle.model_rules.specs.Namespaces.{unshare, clone_user, created_by, join}
 use Rattle.model_rules.specs.SetGroups.{setgroups}
@@ -74,6 +76,7 @@ reply files spaces at c (WriteGidMap target given) = writes at c (write_gid_map 
 reply files spaces at c (WriteSetgroups target deny) = writes at c (write_setgroups spaces at c target deny)
 reply files spaces at c (Exec name) = stays at (execve files spaces at c name)
 reply files spaces at c Exit = no_reply at c
+reply files spaces at c (Install more) = stays at (install c)
 
 -- the spaces and the new one where it is made, else the spaces
 abbrev pub spaces_with : Res → Spaces → ℕ → Credential → Spaces
@@ -88,3 +91,8 @@ spaces_after spaces at c (WriteUidMap target given) = (write_uid_map spaces at c
 spaces_after spaces at c (WriteGidMap target given) = (write_gid_map spaces at c target given).spaces
 spaces_after spaces at c (WriteSetgroups target deny) = (write_setgroups spaces at c target deny).spaces
 spaces_after spaces at c _ = spaces
+
+-- The caller's filter after a call: installing one adds to it, and all other calls leave it.
+abbrev pub filter_after : Filter → Credential → Call → Filter
+filter_after filter c (Install more) = installed (install c).res filter more
+filter_after filter c _ = filter

@@ -1,4 +1,5 @@
 -- Worked cases of the machine: what the definitions give, computed, against what the manual pages say.
+pub mod Filters
 pub mod Worlds
 pub mod Runs
 pub mod SetIdCases
@@ -10,3 +11,4 @@ pub mod FileCases
 pub mod FamilyCases
 pub mod ImpossibleCases
 pub mod OutsideCases
+pub mod FilterCases

@@ -33,7 +33,7 @@ user id = record {
 
 -- a process in a space, without a forebear
 abbrev pub in_space : ℕ → ℕ → Credential → Process
-in_space n pid c = record { pid = pid; forebear = None; space = n; cred = c }
+in_space n pid c = record { pid = pid; forebear = None; space = n; cred = c; filter = no_filter }
 
 -- a process in the initial space, without a forebear
 abbrev pub process : ℕ → Credential → Process

@@ -8,6 +8,7 @@ use Rattle.cm_filter.specs.declared.kind.CallKind.{CallKind}
 use Rattle.cm_filter.specs.Filters.{permits}
 use Rattle.model_cred.specs.Process.{State}
 use Rattle.model_cred.specs.World.{World}
+use Rattle.model_run.specs.Own.{may_call}
 use Rattle.model_run.specs.Step.{Step}
 
 -- the pid is a member
@@ -29,14 +30,15 @@ abbrev pub members_after : List ℕ → ℕ → Call → Res → List ℕ
 members_after members pid Exit res = members_without members pid res
 members_after members pid call res = members_with members res
 
--- A later run: each event is a step of one who is a member at that point, of a kind that is permitted. The order of the
--- members' calls is free, and the list has any length. The last list is that of the members at the end.
+-- A later run: each event is a step of one who is a member at that point, of a kind that is permitted and that the
+-- caller's own filter at that point doesn't exclude. The order of the members' calls is free, and the list has any
+-- length. The last list is that of the members at the end.
 abbrev pub Later : (CallKind → Bool) → World → State → List ℕ → List Event → State → List ℕ → Type 0
 Later permitted w s members [] s' members' = (s' ≡ s) × (members' ≡ members)
 Later permitted w s members (e ∷ es) s' members' =
-    (mid : State) × IsTrue (is_member members e.pid) × IsTrue (permitted (kind_of e.call)) × Step w s e mid
+    (mid : State) × IsTrue (is_member members e.pid) × IsTrue (may_call permitted s e.pid (kind_of e.call)) × Step w s e mid
     × Later permitted w mid (members_after members e.pid e.call e.res) es s' members'
 
--- a later run under the world's own filter
+-- a later run under the world's filter and each caller's own
 abbrev pub LaterRun : World → State → List ℕ → List Event → State → List ℕ → Type 0
 LaterRun w = Later (permits w.filter) w

@@ -4,6 +4,7 @@ pub mod Outside
 pub mod Ruling
 pub mod Step
 pub mod Family
+pub mod Own
 pub mod Later
 pub mod Within
 pub mod Holds

@@ -11,8 +11,8 @@ use Rattle.model_run.specs.Later.{LaterRun, is_member}
 abbrev pub MountsStand : World → State → Type 0
 MountsStand w s = All (λ m. m.space < length s.spaces) w.files.mounts
 
--- After no later run under the world's filter does a member hold the right. A run has any length, births and exits
--- among its events, and the members make their calls in any order. The empty run is the present moment.
+-- After no later run under the world's filter and each caller's own does a member hold the right. A run has any length,
+-- births and exits among its events, and the members make their calls in any order. The empty run is the present moment.
 abbrev pub NeverHeld : World → State → List ℕ → Right → Type 0
 NeverHeld w s members right =
     (events : List Event) (later : State) (members_then : List ℕ) → LaterRun w s members events later members_then

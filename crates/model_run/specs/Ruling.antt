@@ -1,16 +1,17 @@
 -- What the rules give for a call of a process in a state.
 use Rattle.std.specs.Prelude.{ℕ, suc, not, length, find, Some, unwrap_or, if◌then◌else◌}
 use Rattle.std.specs.List.{range_with_len}
-use Rattle.cm_base.specs.declared.errno.Errno.TheVariants.{EAGAIN}
+use Rattle.cm_base.specs.declared.errno.Errno.TheVariants.{EPERM, EAGAIN}
 use Rattle.cm_base.specs.declared.res.Res.{Res}
 use Rattle.cm_base.specs.declared.res.Res.TheVariants.{Done, Child, Err}
-use Rattle.model_cred.specs.Call.{Call, Fork, CloneUser, Exit}
+use Rattle.cm_filter.specs.Filters.{Filter, excludes}
+use Rattle.model_cred.specs.Call.{Call, Fork, CloneUser, Exit, kind_of}
 use Rattle.model_cred.specs.Credential.{Credential}
 use Rattle.model_cred.specs.Process.{Process, State, is_alive, is_pid, put_process, insert_process, without_process}
 use Rattle.model_cred.specs.Space.{Spaces}
 use Rattle.model_cred.specs.World.{World}
 use Rattle.model_rules.specs.Namespaces.{as_newcomer, clone_user}
-use Rattle.model_rules.specs.Reply.{Reply, reply, spaces_after}
+use Rattle.model_rules.specs.Reply.{Reply, reply, spaces_after, filter_after}
 
 -- What the rules give: a result, and the state that they leave.
 pub record Ruling : Type 0 where
@@ -29,12 +30,18 @@ reply_to w s p call = reply w.files s.spaces p.space p.cred call
 abbrev pub spaces_left : State → Process → Call → Spaces
 spaces_left s p call = spaces_after s.spaces p.space p.cred call
 
--- The state after a call that is neither a birth nor an exit: the caller has the space and the credential of the reply.
+-- the caller's filter after its call
+abbrev pub filter_left : Process → Call → Filter
+filter_left p call = filter_after p.filter p.cred call
+
+-- The state after a call that is neither a birth nor an exit: the caller has the space and the credential of the reply,
+-- and its filter.
 abbrev pub state_left : State → Process → Call → Reply → State
-state_left s p call r = with_cred (record s { spaces = spaces_left s p call }) (record p { space = r.space }) r.cred
+state_left s p call r =
+    with_cred (record s { spaces = spaces_left s p call }) (record p { space = r.space; filter = filter_left p call }) r.cred
 
 -- The child of fork(2): a copy of its parent, with a pid of its own and the parent as its forebear (capabilities(7),
--- credentials(7): it inherits copies of all credentials).
+-- credentials(7): it inherits copies of all credentials; seccomp(2): and the parent's filters).
 abbrev pub fork_child : Process → ℕ → Process
 fork_child p pid = record p { pid = pid; forebear = Some p.pid }
 
@@ -59,12 +66,22 @@ birth_unless _ s child spaces = birth s child spaces
 abbrev pub state_without : State → Process → State
 state_without s p = record s { processes = without_process p s.processes }
 
--- What the rules give for a call of the process. The number is the child's pid at a birth, and counts for no other call.
+-- What the rules give for a call that the caller's filter permits. The number is the child's pid at a birth, and counts
+-- for no other call.
+abbrev pub permitted_ruling : World → State → Process → Call → ℕ → Ruling
+permitted_ruling w s p Fork pid = birth s (fork_child p pid) s.spaces
+permitted_ruling w s p CloneUser pid = birth_unless (clone_user s.spaces p.space p.cred) s (clone_child s.spaces p pid) (spaces_left s p CloneUser)
+permitted_ruling w s p Exit pid = record { res = Done; state = state_without s p }
+permitted_ruling w s p call pid = record { res = (reply_to w s p call).res; state = state_left s p call (reply_to w s p call) }
+
+-- A call that the caller's filter excludes: EPERM, and nothing changes (choice; seccomp(2), SECCOMP_RET_ERRNO, may
+-- answer another error).
+abbrev pub excluded_ruling : State → Ruling
+excluded_ruling s = record { res = Err EPERM; state = s }
+
+-- What the rules give for a call of the process.
 abbrev pub ruling : World → State → Process → Call → ℕ → Ruling
-ruling w s p Fork pid = birth s (fork_child p pid) s.spaces
-ruling w s p CloneUser pid = birth_unless (clone_user s.spaces p.space p.cred) s (clone_child s.spaces p pid) (spaces_left s p CloneUser)
-ruling w s p Exit pid = record { res = Done; state = state_without s p }
-ruling w s p call pid = record { res = (reply_to w s p call).res; state = state_left s p call (reply_to w s p call) }
+ruling w s p call pid = if excludes p.filter (kind_of call) then excluded_ruling s else permitted_ruling w s p call pid
 
 -- The least pid that isn't alive: one of the first, as many as processes live and one more. Past the last pid it is
 -- none, as where all pids are alive.

@@ -1,9 +1,10 @@
 -- Steps and runs. A step is one completed call of one live process: what the rules give for it, or an error from
 -- outside with nothing changed.
-use Rattle.std.specs.Prelude.{◌≡◌, ℕ, Bool, false, not, List, [], ◌∷◌, Option, Some, None, if◌then◌else◌}
+use Rattle.std.specs.Prelude.{◌≡◌, ℕ, ◌&&◌, Bool, false, not, List, [], ◌∷◌, Option, Some, None, if◌then◌else◌}
 use Rattle.cm_base.specs.declared.res.Res.{Res}
 use Rattle.cm_base.specs.declared.res.Res.TheVariants.{Child}
-use Rattle.model_cred.specs.Call.{Call, SetNs, WriteUidMap, WriteGidMap, WriteSetgroups, Event}
+use Rattle.cm_filter.specs.Filters.{permits}
+use Rattle.model_cred.specs.Call.{Call, SetNs, WriteUidMap, WriteGidMap, WriteSetgroups, Event, kind_of}
 use Rattle.model_cred.specs.Process.{Process, State, process_at, is_alive}
 use Rattle.model_cred.specs.Space.{Spaces, stands}
 use Rattle.model_cred.specs.World.{World}
@@ -43,11 +44,15 @@ told_child _ = 0
 abbrev pub told_rules : Res → Ruling → Ruling → Outcome
 told_rules told given answer = if same_res told given.res then Goes given.state else Wrong answer.res
 
+-- The result is an error from outside that the process's call may answer: a call that its filter excludes has none.
+abbrev pub answers_from_outside : Process → Call → Res → Bool
+answers_from_outside p call told = permits p.filter (kind_of call) && comes_from_outside call told
+
 -- The call of a live process with the result that is told: an error from outside with nothing changed, or what the rules
--- give. (A filter of the process's own, which no process has yet, is to be asked here, before both.)
+-- give.
 abbrev pub told_call : World → State → Process → Call → Res → Outcome
 told_call w s p call told =
-    if comes_from_outside call told then Goes s else told_rules told (ruling w s p call (told_child told)) (own w s p call)
+    if answers_from_outside p call told then Goes s else told_rules told (ruling w s p call (told_child told)) (own w s p call)
 
 -- the event with the process that its pid names
 abbrev pub outcome_for : World → State → Option Process → Event → Outcome

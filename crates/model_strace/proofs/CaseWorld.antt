@@ -32,7 +32,7 @@ root = record {
 
 -- a process in the initial user namespace
 abbrev pub process : ℕ → Process
-process pid = record { pid = pid; forebear = None; space = 0; cred = root }
+process pid = record { pid = pid; forebear = None; space = 0; cred = root; filter = no_filter }
 
 -- the world of these cases: process 200, and the file /bin/su
 abbrev pub the_world : World

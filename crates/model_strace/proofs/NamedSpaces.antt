@@ -36,7 +36,9 @@ use Rattle.model_strace.specs.Turn.{Turn, Quiet, Gives, Refused, Exceeds, after_
 use Rattle.model_strace.specs.Turn.{with_child, written_call}
 use Rattle.model_text.proofs.CapTexts.{if_mapped, if_there}
 use Rattle.model_text.proofs.ToldEvents.{AreFew, SpacesWithin}
-use Rattle.model_text.specs.Arguments.{Argument, Id, Space, arguments_of, triple_of}
+use Rattle.cm_filter.specs.Filters.{excluded_kinds}
+use Rattle.cm_filter.specs.declared.kind.CallKind.{CallKind}
+use Rattle.model_text.specs.Arguments.{Argument, Id, Space, Kind, arguments_of, triple_of}
 use Rattle.cm_lines.specs.Cut.{Cut}
 use Rattle.cm_lines.specs.declared.limits.Past.{Past}
 use Rattle.model_text.specs.Reading.{Placed, Limit, Reading, log_cut}
@@ -57,6 +59,10 @@ pub triples_name_none : (most : ℕ) (list : List Extent) → SpacesWithin most 
 triples_name_none most [] = tt
 triples_name_none most (e ∷ list) = triples_name_none most list
 
+pub kinds_name_none : (most : ℕ) (kinds : List CallKind) → SpacesWithin most (map Kind kinds)
+kinds_name_none most [] = tt
+kinds_name_none most (kind ∷ kinds) = kinds_name_none most kinds
+
 -- a call that names none
 none_named : (most : ℕ) (call : Call) → names_space call ≡ false → SpacesWithin most (arguments_of call)
 none_named most (model.SetGroups ids) is = ids_name_none most ids
@@ -64,6 +70,7 @@ none_named most (model.SetNs n) is = absurd (cc)
 none_named most (model.WriteUidMap n given) is = absurd (cc)
 none_named most (model.WriteGidMap n given) is = absurd (cc)
 none_named most (model.WriteSetgroups n deny) is = absurd (cc)
+none_named most (model.Install more) is = kinds_name_none most (excluded_kinds more)
 none_named most _ is = tt
 
 -- the spaces that the event names are at most this

@@ -5,7 +5,6 @@ use Rattle.std.proofs.Common.{Option, Some, None, Result, Ok, Err, IfSome, All, 
 use Rattle.std.proofs.Common.{subst, if◌then◌else◌}
 use Rattle.std.proofs.lemmas.Bool.{cond_both}
 use Rattle.std.proofs.lemmas.List.Elements.{All-nil, All-cons, All-map}
-use Rattle.std.proofs.lemmas.Option.{IfSome_then}
 use Rattle.std.specs.Prelude.{IfOk, bytes_eq, codes, drop, find, ok_or}
 use Rattle.std.specs.Prelude.{slice_get}
 use Rattle.cm_base.specs.declared.faults.LineFault.{LineFault}
@@ -41,13 +40,12 @@ use Rattle.model_strace.specs.Written.{Written, arguments_of as parts_of, call_n
 use Rattle.model_strace.specs.Written.{written_of}
 use Rattle.model_text.proofs.CapTexts.{if_then, if_mapped}
 use Rattle.model_text.proofs.ToldEvents.{AreFew, Fits, IsCallOf, SpacesFit, arguments_fit, calls_made}
-use Rattle.model_text.proofs.ToldEvents.{made_fits}
 use Rattle.model_text.proofs.ToldEvents.{named_declared, number_fits}
 use Rattle.model_text.specs.Arguments.{Argument, Id, Cap, File, Set, arguments_of, call_with, pattern_of}
 use Rattle.model_text.specs.Arguments.{Number as ANumber}
 use Rattle.model_text.specs.Line.{arguments_from, groups_fit}
 use Rattle.model_text.specs.Token.{number_token}
-use Rattle.model_text.specs.Written.{IsBirth, IsInRange, IsOutcome, MayAnswer}
+use Rattle.model_text.specs.Written.{InstallsFilter, IsBirth, IsInRange, IsOutcome, MayAnswer}
 use Rattle.model_strace.proofs.ToldValues.{any_some, any_ok, ok_from, found_good, capability_fits, bits_fit, AreSets}
 use Rattle.model_strace.proofs.ToldValues.{sets_are, list_fits, OutcomeFits, outcome_fits, plain_may, id_may}
 use Rattle.model_strace.proofs.ToldValues.{birth_may}
@@ -58,6 +56,7 @@ use Rattle.model_strace.proofs.ToldValues.{birth_may}
 pub record CallFits (w : World) (call : Call) (result : Res) : Type 0 where
   pub arguments : SpacesFit (arguments_of call) → All (IsInRange w) (arguments_of call)
   pub groups : IsTrue (groups_fit call)
+  pub filter : InstallsFilter call
   pub may : MayAnswer (kind_of call) result
 
 -- the call names a space
@@ -157,9 +156,7 @@ module _ (w : World) where
       → IfOk (ids_call kind read) (IsCallOf w kind)
   ids_call_is kind (Err number) fit = tt
   ids_call_is kind (Ok ids) fit =
-      ok_from (IsCallOf w kind) (call_with kind ids) _
-      (IfSome_then (call_with kind ids) (calls_made kind ids)
-      (λ call made. made_fits w kind ids call (fit ids refl) made))
+      ok_from (IsCallOf w kind) (call_with kind ids) _ (calls_made w kind ids (fit ids refl))
 
   ids_told_fits : (kind : CallKind) (arguments : List (List ℕ)) (outcome : Outcome) → AreFew w → sets_ids kind ≡ true
       → OutcomeFits outcome
@@ -174,6 +171,7 @@ module _ (w : World) where
         record {
           arguments = λ _. its.fit;
           groups = no_groups call (ap sets_ids its.is ∙ is);
+          filter = its.filter;
           may = subst (λ (k : CallKind). MayAnswer k r) (sym its.is) may;
         },
         no_space call (ap sets_ids its.is ∙ is),
@@ -199,7 +197,7 @@ module _ (w : World) where
       call_fits ids r all may =
           cond_both (groups_fit (model.SetGroups ids)) (Does (model.SetGroups ids) r) (calls.Exceeds limit.Groups)
           (ToldFits w)
-          (λ fit. (record { arguments = λ _. All-map (IsInRange w) Id ids all; groups = fit; may = may }, refl))
+          (λ fit. (record { arguments = λ _. All-map (IsInRange w) Id ids all; groups = fit; filter = tt; may = may }, refl))
           (λ _. tt)
 
   -- the arguments of calls
@@ -222,6 +220,7 @@ module _ (w : World) where
               (All-cons (IsInRange w) (Set sets.permitted) (Set sets.inheritable ∷ []) are.permitted
               (one_fits (Set sets.inheritable) are.inheritable));
           groups = refl;
+          filter = tt;
           may = may;
         },
         refl,
@@ -231,12 +230,13 @@ module _ (w : World) where
   -- a call with one argument, which is in its range and no space
   one_told : (call : Call) (a : Argument) (r : Res) → arguments_of call ≡ a ∷ [] → IsInRange w a
       → IsTrue (groups_fit call)
-      → MayAnswer (kind_of call) r → names_space call ≡ false → CallTold w call r
-  one_told call a r are is groups may none = (
+      → InstallsFilter call → MayAnswer (kind_of call) r → names_space call ≡ false → CallTold w call r
+  one_told call a r are is groups filter may none = (
     record {
       arguments = λ _. subst (All (IsInRange w)) (sym are)
           (one_fits a is);
       groups = groups;
+      filter = filter;
       may = may;
     },
     none,
@@ -262,14 +262,14 @@ module _ (w : World) where
   ambient_fits what arguments outcome =
       if_fits (bytes_eq what (codes "PR_CAP_AMBIENT_RAISE")) (cap_told model.AmbRaise 3 arguments outcome) _
       (cap_told_fits model.AmbRaise 3 arguments outcome
-      (λ n r fits may. one_told (model.AmbRaise n) (Cap n) r refl fits refl may refl))
+      (λ n r fits may. one_told (model.AmbRaise n) (Cap n) r refl fits refl tt may refl))
       (if_fits (bytes_eq what (codes "PR_CAP_AMBIENT_LOWER")) (cap_told model.AmbLower 3 arguments outcome) _
       (cap_told_fits model.AmbLower 3 arguments outcome
-      (λ n r fits may. one_told (model.AmbLower n) (Cap n) r refl fits refl may refl))
+      (λ n r fits may. one_told (model.AmbLower n) (Cap n) r refl fits refl tt may refl))
       (if_fits (bytes_eq what (codes "PR_CAP_AMBIENT_CLEAR_ALL"))
       (with_result (plain_result outcome) (Does model.AmbClear)) Nothing
       (result_fits IsOutcome (plain_result outcome) (Does model.AmbClear) (plain_may outcome)
-      (λ r may. (record { arguments = λ _. All-nil (IsInRange w); groups = refl; may = may }, refl)))
+      (λ r may. (record { arguments = λ _. All-nil (IsInRange w); groups = refl; filter = tt; may = may }, refl)))
       tt))
 
   option_fits : (option : List ℕ) (arguments : List (List ℕ)) (outcome : Outcome)
@@ -277,18 +277,18 @@ module _ (w : World) where
   option_fits option arguments outcome =
       if_fits (bytes_eq option (codes "PR_SET_KEEPCAPS")) (number_told model.KeepCaps arguments outcome) _
       (number_told_fits model.KeepCaps arguments outcome
-      (λ n r fits may. one_told (model.KeepCaps n) (ANumber n) r refl fits refl may refl))
+      (λ n r fits may. one_told (model.KeepCaps n) (ANumber n) r refl fits refl tt may refl))
       (if_fits (bytes_eq option (codes "PR_SET_NO_NEW_PRIVS")) (number_told model.NoNewPrivs arguments outcome) _
       (number_told_fits model.NoNewPrivs arguments outcome
-      (λ n r fits may. one_told (model.NoNewPrivs n) (ANumber n) r refl fits refl may refl))
+      (λ n r fits may. one_told (model.NoNewPrivs n) (ANumber n) r refl fits refl tt may refl))
       (if_fits (bytes_eq option (codes "PR_SET_SECUREBITS"))
       (plain_call outcome (read_argument securebits 2 arguments) model.SecureBits) _
       (plain_fits Fits outcome (read_argument securebits 2 arguments) model.SecureBits
       (argument_is Fits securebits bits_fit 2 arguments)
-      (λ n r fits may. one_told (model.SecureBits n) (ANumber n) r refl fits refl may refl))
+      (λ n r fits may. one_told (model.SecureBits n) (ANumber n) r refl fits refl tt may refl))
       (if_fits (bytes_eq option (codes "PR_CAPBSET_DROP")) (cap_told model.BsetDrop 2 arguments outcome) _
       (cap_told_fits model.BsetDrop 2 arguments outcome
-      (λ n r fits may. one_told (model.BsetDrop n) (Cap n) r refl fits refl may refl))
+      (λ n r fits may. one_told (model.BsetDrop n) (Cap n) r refl fits refl tt may refl))
       (if_fits (bytes_eq option (codes "PR_CAP_AMBIENT"))
       (then_tells (deciding 2 arguments outcome) (λ what. ambient_told what arguments outcome)) Nothing
       (then_fits (λ what. Unit {0}) (deciding 2 arguments outcome) (λ what. ambient_told what arguments outcome)
@@ -305,7 +305,7 @@ module _ (w : World) where
   unshare_fits flags outcome =
       if_fits (has_flag (codes "CLONE_NEWUSER") flags) (with_result (plain_result outcome) (Does model.Unshare)) Nothing
       (result_fits IsOutcome (plain_result outcome) (Does model.Unshare) (plain_may outcome)
-      (λ r may. (record { arguments = λ _. All-nil (IsInRange w); groups = refl; may = may }, refl)))
+      (λ r may. (record { arguments = λ _. All-nil (IsInRange w); groups = refl; filter = tt; may = may }, refl)))
       tt
 
   execve_fits : (number : ℕ) (arguments : List (List ℕ)) (outcome : Outcome)
@@ -313,7 +313,7 @@ module _ (w : World) where
   execve_fits number arguments outcome =
       plain_fits (IsDeclared w.files) outcome (read_argument (file_quoted w) number arguments) model.Exec
       (argument_is (IsDeclared w.files) (file_quoted w) quoted_is number arguments)
-      (λ file r there may. (record { arguments = λ _. one_fits (File file) there; groups = refl; may = may }, refl))
+      (λ file r there may. (record { arguments = λ _. one_fits (File file) there; groups = refl; filter = tt; may = may }, refl))
     where
       quoted_is : (text : List ℕ) → IfSome (file_quoted w text) (IsDeclared w.files)
       quoted_is text =

@@ -42,11 +42,11 @@ TurnFits w _ = Unit {0}
 module _ (w : World) (pid : ℕ) (is : IsTrue (is_pid pid)) where
   event_can : (call : Call) (r : Res) → CallFits w call r → CanWrite w (record { pid = pid; call = call; res = r })
   event_can call r fits spaces =
-      record { pid = is; arguments = fits.arguments spaces; groups = fits.groups; result = fits.may }
+      record { pid = is; arguments = fits.arguments spaces; groups = fits.groups; filter = fits.filter; result = fits.may }
 
   birth_call_fits : (user : Bool) (r : Res) → IsBirth r → CallFits w (birth_call user) r
-  birth_call_fits true r may = record { arguments = λ _. All-nil (IsInRange w); groups = refl; may = may }
-  birth_call_fits false r may = record { arguments = λ _. All-nil (IsInRange w); groups = refl; may = may }
+  birth_call_fits true r may = record { arguments = λ _. All-nil (IsInRange w); groups = refl; filter = tt; may = may }
+  birth_call_fits false r may = record { arguments = λ _. All-nil (IsInRange w); groups = refl; filter = tt; may = may }
 
   triples_fit : (list : List Extent) → All ExtentFits list → All (IsInRange w) (flat_map triple_of list)
   triples_fit [] all = All-nil (IsInRange w)
@@ -68,11 +68,11 @@ module _ (w : World) (pid : ℕ) (is : IsTrue (is_pid pid)) where
   written_fits UidMap space text r may =
       if_mapped (All ExtentFits) (λ call. CallFits w call r) (model.WriteUidMap space) (written_extents text)
       (extents_fit (lines_of text))
-      (λ list all. record { arguments = λ spaces. written_fit space list all spaces.0; groups = refl; may = may })
+      (λ list all. record { arguments = λ spaces. written_fit space list all spaces.0; groups = refl; filter = tt; may = may })
   written_fits GidMap space text r may =
       if_mapped (All ExtentFits) (λ call. CallFits w call r) (model.WriteGidMap space) (written_extents text)
       (extents_fit (lines_of text))
-      (λ list all. record { arguments = λ spaces. written_fit space list all spaces.0; groups = refl; may = may })
+      (λ list all. record { arguments = λ spaces. written_fit space list all spaces.0; groups = refl; filter = tt; may = may })
   written_fits SetgroupsWord space text r may =
       if_mapped (λ deny. Unit {0}) (λ call. CallFits w call r) (model.WriteSetgroups space) (written_word text)
       (any_some (written_word text))
@@ -80,6 +80,7 @@ module _ (w : World) (pid : ℕ) (is : IsTrue (is_pid pid)) where
         arguments =
             λ spaces. All-cons (IsInRange w) (Space space) (Word deny ∷ []) spaces.0 (one_fits w (Word deny) tt);
         groups = refl;
+        filter = tt;
         may = may;
       })
   written_fits UserSpace space text r may = tt
@@ -95,11 +96,11 @@ module _ (w : World) (pid : ℕ) (is : IsTrue (is_pid pid)) where
   way_fits p t (Fails user shares r may) = event_can (birth_call user) r (birth_call_fits user r may)
   way_fits p t (Enters d known r may) =
       event_can (model.SetNs d.space) r
-      (record { arguments = λ spaces. one_fits w (Space d.space) spaces.0; groups = refl; may = may })
+      (record { arguments = λ spaces. one_fits w (Space d.space) spaces.0; groups = refl; filter = tt; may = may })
   way_fits p t (Writes d known text call is) = event_can call res.Done (call_fits d text call res.Done tt is)
   way_fits p t (Unwritten d known text call is e) = event_can call (res.Err e) (call_fits d text call (res.Err e) tt is)
   way_fits p t Exits =
-      event_can model.Exit res.Done (record { arguments = λ _. All-nil (IsInRange w); groups = refl; may = refl })
+      event_can model.Exit res.Done (record { arguments = λ _. All-nil (IsInRange w); groups = refl; filter = tt; may = refl })
   way_fits p t (Resumes _ way) = way_fits (without_kept pid p) t way
   way_fits p t _ = tt
 

@@ -9,6 +9,7 @@ pub mod ArgumentTexts
 pub mod SpaceTexts
 pub mod FileTexts
 pub mod ReadBack
+pub mod BareCalls
 pub mod ToldEvents
 pub mod WrittenLogs
 pub mod WrittenCases
@@ -33,6 +34,7 @@ pub mod CapLineCases
 pub mod BirthLineCases
 pub mod SpaceLineCases
 pub mod FileLineCases
+pub mod InstallLineCases
 pub mod FaultCases
 pub mod CutCases
 pub mod WorldCases

@@ -94,8 +94,11 @@ pub file_system_ids : record {
       (codes "100 setfsuid = 0" ∷ codes "100 setfsuid 5 6 = 0" ∷ codes "100 setfsgid = EPERM" ∷ []);
   kind_of_file_system_ids : Have (fault.Argument 1) (codes "100 setfsgid x = 0" ∷ codes "100 setfsuid x = EPERM" ∷ []);
   result_of_file_system_ids : Have fault.Outcome
-      (codes "100 setfsuid 5 = EPERM" ∷ codes "100 setfsuid 5 = EAGAIN" ∷ codes "100 setfsuid 5 = -1"
-      ∷ codes "100 setfsuid 5 = 4294967296" ∷ codes "100 setfsgid 5 = EINVAL" ∷ []);
+      (codes "100 setfsuid 5 = EAGAIN" ∷ codes "100 setfsuid 5 = -1" ∷ codes "100 setfsuid 5 = 4294967296"
+      ∷ codes "100 setfsgid 5 = EINVAL" ∷ []);
+  -- where the caller's filter excludes it
+  setfsuid_is_excluded : IsEvent (codes "100 setfsuid 5 = EPERM") (SetFsUid 5) (Err EPERM);
+  setfsgid_is_excluded : IsEvent (codes "100 setfsgid 5 = EPERM") (SetFsGid 5) (Err EPERM);
 }
 file_system_ids = search
 

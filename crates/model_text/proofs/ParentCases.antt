@@ -1,6 +1,7 @@
 -- Worked cases, by computation, of worlds that declare parents.
 use Rattle.std.proofs.Common.{◌≡◌, ℕ, List, [], ◌∷◌, Option, None, Some}
 use Rattle.std.specs.Prelude.{codes}
+use Rattle.cm_filter.specs.Filters.{no_filter}
 use Rattle.model_cred.specs.Credential.{Credential}
 use Rattle.model_cred.specs.Process.{Process}
 use Rattle.cm_base.specs.declared.faults.WorldFault.TheVariants as fault
@@ -10,7 +11,7 @@ use Rattle.model_text.specs.WorldText.{Reads, world_text}
 
 -- a process with that forebear and credential
 abbrev pub of_forebear : ℕ → Option ℕ → Credential → Process
-of_forebear pid forebear c = record { pid = pid; forebear = forebear; space = 0; cred = c }
+of_forebear pid forebear c = record { pid = pid; forebear = forebear; space = 0; cred = c; filter = no_filter }
 
 -- process 100 of root, whose row these texts go on from, and these processes beside it, by ascending pid
 abbrev pub ReadsWith : List ℕ → List Process → Type 0

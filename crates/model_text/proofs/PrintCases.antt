@@ -4,6 +4,7 @@ use Rattle.std.specs.Prelude.{⊤, codes}
 use Rattle.std.specs.Fmt.{digits}
 use Rattle.cm_base.specs.declared.res.Res.TheVariants.{Done, Err}
 use Rattle.cm_base.specs.declared.errno.Errno.TheVariants.{EPERM}
+use Rattle.cm_filter.specs.Filters.{no_filter}
 use Rattle.model_cred.specs.Call.{SetResUid}
 use Rattle.model_cred.specs.Credential.{all_four}
 use Rattle.model_cred.specs.Process.{Process}
@@ -34,7 +35,7 @@ single_texts = search
 
 -- process 100 in the initial space, with these user ids and all else by default
 abbrev pub process_100 : ℕ → Process
-process_100 uid = record { pid = 100; forebear = None; space = 0; cred = default_cred (all_four uid) }
+process_100 uid = record { pid = 100; forebear = None; space = 0; cred = default_cred (all_four uid); filter = no_filter }
 
 pub printed_lines : record {
   credentials_of_root : credential_line [] (process_100 0)

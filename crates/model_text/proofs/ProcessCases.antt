@@ -1,6 +1,7 @@
 -- Worked cases, by computation, of the rows that declare a process: each key, its default, and its faults.
 use Rattle.std.proofs.Common.{◌≡◌, ℕ, true, false, List, [], ◌∷◌, ◌++◌, map, None, refl}
 use Rattle.std.specs.Prelude.{codes}
+use Rattle.cm_filter.specs.Filters.{no_filter}
 use Rattle.model_cred.specs.Credential.{Credential, all_four}
 use Rattle.model_cred.specs.Space.{first_spaces}
 use Rattle.cm_base.specs.declared.faults.Table.TheVariants as table
@@ -35,7 +36,7 @@ root = record user { uid = all_four 0; permitted = 0x1ffffffffff; effective = 0x
 
 -- the row declares the process with this credential
 abbrev pub Declares : List ℕ → Credential → Type 0
-Declares rest c = world_text (of_row rest) ≡ Reads (world_with (record { pid = 100; forebear = None; space = 0; cred = c } ∷ []))
+Declares rest c = world_text (of_row rest) ≡ Reads (world_with (record { pid = 100; forebear = None; space = 0; cred = c; filter = no_filter } ∷ []))
 
 -- the row has this fault with each of these keys
 abbrev pub AreBad : WorldFault → List (List ℕ) → Type 0
@@ -181,7 +182,8 @@ pub pids_and_spaces : record {
   a_process_in_a_space : world_text (of_space (codes "[[process]]\npid = 100\nspace = \"a\"\n[[process]]\npid = 99\nspace = \"init\"\n"))
       ≡ Reads (record (world_with []) {
         start = record {
-          processes = record { pid = 99; forebear = None; space = 0; cred = root } ∷ record { pid = 100; forebear = None; space = 1; cred = root } ∷ [];
+          processes = record { pid = 99; forebear = None; space = 0; cred = root; filter = no_filter }
+              ∷ record { pid = 100; forebear = None; space = 1; cred = root; filter = no_filter } ∷ [];
           spaces = plain ∷ first_spaces;
         };
         names = codes "a" ∷ [];

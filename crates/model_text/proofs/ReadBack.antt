@@ -2,7 +2,7 @@
 use Rattle.std.proofs.Common.{◌≡◌, ℕ, suc, ◌+◌, ◌*◌, ◌%◌, ◌<◌, ◌≤◌, Bool, true, false, List, [], ◌∷◌}
 use Rattle.std.proofs.Common.{◌++◌, length, map, refl, ap, ◌∙◌, arith, All, IsTrue, append_assoc, length-append, sym, subst}
 use Rattle.std.proofs.Common.{Option, Some, None, lit<, add-one, nat_lt}
-use Rattle.std.proofs.lemmas.Bool.{eq-eqb, ne_eqb, leb-true, ltb-true, and_parts}
+use Rattle.std.proofs.lemmas.Bool.{cond-true, eq-eqb, ne_eqb, leb-true, ltb-true, and_parts}
 use Rattle.std.proofs.lemmas.List.Elements.{All-head, All-tail, All-weaker}
 use Rattle.std.specs.Prelude.{codes, decimal, Ok, option_map, flat_map, nat_le, get_or}
 use Rattle.std.proofs.lemmas.List.{length-map}
@@ -21,6 +21,8 @@ use Rattle.cm_filter.specs.declared.kind.CallKind.{CallKind}
 use Rattle.cm_filter.specs.declared.kind.CallKind.TheVariants as kind
 use Rattle.cm_filter.specs.Kinds.{call_name, kind_named}
 use Rattle.cm_filter.specs.Shapes.{ResultForm, DoneOrError, DoneAlone, OldId, ChildOrError, Just, result_form}
+use Rattle.cm_filter.specs.Filters.{Filter, filter_excluding, excluded_kinds}
+use Rattle.cm_filter.proofs.Excluded.{kinds_back}
 use Rattle.model_cred.specs.Call.{Call, Event, kind_of}
 use Rattle.model_cred.specs.Carried.{Value, Values, Carries}
 use Rattle.model_cred.specs.IdMap.{Extent}
@@ -34,16 +36,28 @@ use Rattle.model_text.proofs.HexTexts.{set_is_token, set_back, set_length}
 use Rattle.model_text.proofs.KeepsNames.{declared_names_keep}
 use Rattle.model_text.proofs.SpaceTexts.{space_written}
 use Rattle.model_text.proofs.Tokens.{IsToken, token_alone, token_before, tokens_before}
-use Rattle.model_text.specs.Arguments.{Form, AnId, ANumber, ACap, ASet, ASpace, AWord, AFile, Pattern, Ids, Triples, pattern_of, takes, form_at}
-use Rattle.model_text.specs.Arguments.{Argument, Id, Number, Cap, Set, Space, Word, File, argument_token}
-use Rattle.model_text.specs.Arguments.{argument_text, extents_in, ids_in, triple_of, arguments_of, call_with}
+use Rattle.model_text.specs.Arguments.{Form, AnId, ANumber, ACap, ASet, ASpace, AWord, AFile, AKind, Pattern, Ids, Triples, Kinds, pattern_of, takes, form_at}
+use Rattle.model_text.specs.Arguments.{Argument, Id, Number, Cap, Set, Space, Word, File, Kind, argument_token}
+use Rattle.model_text.specs.Arguments.{argument_text, extents_in, ids_in, kinds_in, call_with, triple_of, arguments_of}
 use Rattle.model_text.specs.Arguments.{value_in, values_in, carried_in, as_argument, as_arguments, carried_as}
 use Rattle.model_text.specs.Cut.{tokens_of}
 use Rattle.model_text.specs.Line.{Tells, Tokens, parts_of, after_argument, arguments_from, call_told, groups_fit, result_of_form, result_of_kind, script_line, tokens_line}
 use Rattle.model_text.specs.Print.{event_text}
+use Rattle.model_text.specs.Token.{can_be_excluded, excludable, excluded_token}
 use Rattle.model_text.specs.Token.{pid_token, result_token, birth_token, old_id_token, done_token, res_text, is_comment, is_equals}
 use Rattle.model_text.specs.Written.{AreNames, ArePaths, KeepsNames, DeclaredNamesKeep, IsInRange, IsOutcome, IsBirth, IsOldId, IsOfForm, MayAnswer}
-use Rattle.model_text.specs.Written.{IsWritable, LinesReadBack}
+use Rattle.model_text.specs.Written.{CarriesFilter, InstallsFilter, IsWritable, LinesReadBack}
+
+-- ---- names
+-- The name of a call is a token, no `=`, and names the call's kind.
+record KindWritten (kind : CallKind) : Type 0 where
+  token : IsToken (call_name kind)
+  plain : is_equals (call_name kind) ≡ false
+  back : kind_named (call_name kind) ≡ Some kind
+
+kind_written : (kind : CallKind) → KindWritten kind
+kind_written kind.SetUid = record { token = record { some = lit< tt; short = lit< tt; plain = refl }; plain = refl; back = refl }
+kind_written _ = record { token = record { some = lit< tt; short = lit< tt; plain = refl }; plain = refl; back = refl }
 
 -- ---- single arguments
 -- the form of an argument
@@ -55,6 +69,7 @@ form_of (Set n) = ASet
 form_of (Space n) = ASpace
 form_of (Word deny) = AWord
 form_of (File file) = AFile
+form_of (Kind kind) = AKind
 
 -- What is written of an argument: a token, no `=`, which is read as the argument.
 pub record Written (w : World) (argument : Argument) : Type 0 where
@@ -84,6 +99,13 @@ set_written w n small = record {
 pub word_written : (w : World) (deny : Bool) → Written w (Word deny)
 word_written w deny = record { token = word_is_token deny; plain = word_is_no_equals deny; back = ap (option_map Word) (word_back deny) }
 
+pub kind_argument_written : (w : World) (kind : CallKind) → IsTrue (can_be_excluded kind) → Written w (Kind kind)
+kind_argument_written w kind can = record {
+  token = (kind_written kind).token;
+  plain = (kind_written kind).plain;
+  back = ap (option_map Kind) (ap excludable (kind_written kind).back ∙ cond-true (can_be_excluded kind) (Some kind) None can);
+}
+
 -- each argument, where the names and paths of the world are
 written : (w : World) (argument : Argument) → AreNames w.names → ArePaths (map (λ row. row.path) w.files.rows) → IsInRange w argument → Written w argument
 written w (Id n) names paths fits = id_written w n fits
@@ -95,6 +117,7 @@ written w (Space n) names paths fits =
 written w (Word deny) names paths _ = word_written w deny
 written w (File file) names paths there =
     let named = file_written w.files file paths there in record { token = named.token; plain = named.plain; back = ap (option_map File) named.back }
+written w (Kind kind) names paths can = kind_argument_written w kind can
 
 -- ---- the parts after a call's name
 -- arguments that aren't `=`, and a result after the `=`
@@ -124,6 +147,10 @@ fit_ids : (place : ℕ) (ids : List ℕ) → Fit Ids place (map Id ids)
 fit_ids place [] = tt
 fit_ids place (id ∷ ids) = (refl, fit_ids (place + 1) ids)
 
+fit_kinds : (place : ℕ) (kinds : List CallKind) → Fit Kinds place (map Kind kinds)
+fit_kinds place [] = tt
+fit_kinds place (kind ∷ kinds) = (refl, fit_kinds (place + 1) kinds)
+
 fit_triples : (place : ℕ) (list : List Extent) → Fit Triples (suc place) (flat_map triple_of list)
 fit_triples place [] = tt
 fit_triples place (e ∷ list) = rw (add-one, add-one, add-one) (refl, (refl, (refl, fit_triples (suc (suc (suc place))) list)))
@@ -135,6 +162,10 @@ length_triples (e ∷ list) = omega (arith, length_triples list)
 pub ids_back : (ids : List ℕ) → ids_in (map Id ids) ≡ Some ids
 ids_back [] = refl
 ids_back (id ∷ ids) = ap (option_map (λ (ids : List ℕ). id ∷ ids)) (ids_back ids)
+
+pub kinds_in_back : (kinds : List CallKind) → kinds_in (map Kind kinds) ≡ Some kinds
+kinds_in_back [] = refl
+kinds_in_back (kind ∷ kinds) = ap (option_map (λ (kinds : List CallKind). kind ∷ kinds)) (kinds_in_back kinds)
 
 pub extents_back : (list : List Extent) → extents_in (flat_map triple_of list) ≡ Some list
 extents_back [] = refl
@@ -188,35 +219,31 @@ fit_values front (form ∷ forms) values =
       subst (λ (place : ℕ). Fit (Just (front ++ form ∷ forms)) place (as_arguments forms values.1)) long moved,
     )
 
-are_of : (pattern : Pattern) (carried : Carries pattern) → AreOf pattern carried
-are_of (Just forms) values = record {
+are_of : (pattern : Pattern) (carried : Carries pattern) → CarriesFilter pattern carried → AreOf pattern carried
+are_of (Just forms) values is = record {
   count = eq-eqb (length (as_arguments forms values)) (length forms) (values_count forms values);
   fit = fit_values [] forms values;
   made = values_back forms values;
 }
-are_of Ids ids = record { count = refl; fit = fit_ids 0 ids; made = ids_back ids }
-are_of Triples carried = record {
+are_of Ids ids is = record { count = refl; fit = fit_ids 0 ids; made = ids_back ids }
+are_of Triples carried is = record {
   count = triples_counted (Space carried.0) carried.1;
   fit = (refl, fit_triples 0 carried.1);
   made = ap (option_map (λ list. (carried.0, list))) (extents_back carried.1);
 }
+are_of Kinds more is = record {
+  count = refl;
+  fit = fit_kinds 0 (excluded_kinds more);
+  made = ap (option_map filter_excluding) (kinds_in_back (excluded_kinds more)) ∙ ap (λ (f : Filter). Some f) (kinds_back more is);
+}
 
 -- the arguments of a call of the kind make the call
-pub made_call : (kind : CallKind) (arguments : List Argument) (call : Call) → kind_of call ≡ kind → arguments_of call ≡ arguments
-    → call_with kind arguments ≡ Some call
-made_call kind arguments call is from =
-    rw (← is, ← from) (ap (option_map (λ carried. (kind_of call, carried))) (are_of (pattern_of (kind_of call)) call.1).made)
+pub made_call : (kind : CallKind) (arguments : List Argument) (call : Call) → InstallsFilter call → kind_of call ≡ kind
+    → arguments_of call ≡ arguments → call_with kind arguments ≡ Some call
+made_call kind arguments call filter is from =
+    rw (← is, ← from) (ap (option_map (λ carried. (kind_of call, carried))) (are_of (pattern_of (kind_of call)) call.1 filter).made)
 
--- ---- names
--- The name of a call is a token, which names the call's kind.
-record KindWritten (kind : CallKind) : Type 0 where
-  token : IsToken (call_name kind)
-  back : kind_named (call_name kind) ≡ Some kind
-
-kind_written : (kind : CallKind) → KindWritten kind
-kind_written kind.SetUid = record { token = record { some = lit< tt; short = lit< tt; plain = refl }; back = refl }
-kind_written _ = record { token = record { some = lit< tt; short = lit< tt; plain = refl }; back = refl }
-
+-- ---- errors
 -- The name of an error is a token, and neither a number nor `0`.
 record ErrorWritten (e : Errno) : Type 0 where
   token : IsToken (errno_name e)
@@ -244,7 +271,11 @@ pid_fits : (pid : ℕ) → IsTrue (is_pid pid) → pid ≤ greatest_number
 pid_fits pid is = let high : pid ≤ last_pid = leb-true pid last_pid (and_parts (nat_le 1 pid) (nat_le pid last_pid) is).1 in omega arith
 
 old_id_written : (answer : Res) → IsOldId answer → ResultWritten old_id_token answer
-old_id_written (res.Id n) fits = record { token = decimal_token n fits; back = ap (option_map res.Id) (number_back n fits) }
+old_id_written (res.Id n) fits = record {
+  token = decimal_token n fits;
+  back = ap (λ (found : Option ℕ). option_or (option_map res.Id found) (excluded_token (decimal n))) (number_back n fits);
+}
+old_id_written (res.Err e) is = rw is (record { token = (error_written errno.EPERM).token; back = refl })
 old_id_written _ never = absurd never
 
 birth_written : (answer : Res) → IsBirth answer → ResultWritten birth_token answer
@@ -305,10 +336,10 @@ no_comment (d ∷ digits) all =
     ne_eqb d 59 (λ same. omega arith)
 
 -- the arguments make their call
-call_back : (w : World) (call : Call) → All (Written w) (arguments_of call)
+call_back : (w : World) (call : Call) → InstallsFilter call → All (Written w) (arguments_of call)
     → call_told w (kind_of call) (map (argument_text w) (arguments_of call)) ≡ Ok call
-call_back w call all =
-    let make : AreOf (pattern_of (kind_of call)) call.1 = are_of (pattern_of (kind_of call)) call.1 in
+call_back w call is all =
+    let make : AreOf (pattern_of (kind_of call)) call.1 = are_of (pattern_of (kind_of call)) call.1 is in
     rw (length-map, make.count, arguments_back w (pattern_of (kind_of call)) 0 (arguments_of call) make.fit all, make.made) refl
 
 -- An event that is read again as it is written: its arguments are, its pid and its result are in their ranges, and its
@@ -317,6 +348,7 @@ pub record IsReadBack (w : World) (e : Event) : Type 0 where
   pub pid : IsTrue (is_pid e.pid)
   pub arguments : All (Written w) (arguments_of e.call)
   pub groups : IsTrue (groups_fit e.call)
+  pub filter : InstallsFilter e.call
   pub result : MayAnswer (kind_of e.call) e.res
 
 -- the tokens of a line tell the event
@@ -331,7 +363,7 @@ tokens_back w e can =
       pid_back e.pid can.pid,
       (kind_written (kind_of e.call)).back,
       parts_written w (arguments_of e.call) (res_text e.res) can.arguments,
-      call_back w e.call can.arguments,
+      call_back w e.call can.filter can.arguments,
       (result_written (kind_of e.call) e.res can.result).back,
       can.groups,
     ) refl
@@ -366,6 +398,7 @@ event_read_back w e keeps can =
       pid = can.pid;
       arguments = (tokens_written w e keeps can).arguments;
       groups = can.groups;
+      filter = can.filter;
       result = can.result;
     })
 

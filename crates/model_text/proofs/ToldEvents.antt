@@ -1,19 +1,21 @@
 -- Each event that a script line tells over a world that a text declares is writable over it.
-use Rattle.std.proofs.Common.{◌≡◌, ℕ, ◌+◌, ◌<◌, ◌≤◌, ◌==◌, Bool, List, [], ◌∷◌, length, map}
+use Rattle.std.proofs.Common.{◌≡◌, ℕ, ◌+◌, ◌<◌, ◌≤◌, ◌==◌, Bool, ◌||◌, true, false, List, [], ◌∷◌, length, map}
 use Rattle.std.proofs.Common.{Option, Some, None, Result, Ok, Err, IfSome, refl, sym, ap, ◌∙◌, arith, inl, inr, subst}
 use Rattle.std.proofs.Common.{if◌then◌else◌, nat_le, All, IsTrue}
-use Rattle.std.proofs.lemmas.Bool.{cases_Bool, cond_both, leb-true}
+use Rattle.std.proofs.lemmas.Bool.{cases_Bool, cond_both, leb-true, or_from, false≢true}
 use Rattle.std.proofs.lemmas.Iterator.Adapters.{position_from-zero}
-use Rattle.std.proofs.lemmas.List.Elements.{All-nil, All-cons}
+use Rattle.std.proofs.lemmas.List.Elements.{All-nil, All-cons, All-head, All-tail, All-map, All-weaker}
 use Rattle.std.proofs.lemmas.Option.{IfSome_then, same_Some}
 use Rattle.std.specs.Prelude.{codes, bytes_eq, ok_or, option_map, flat_map}
-use Rattle.std.specs.List.{position_from}
+use Rattle.std.specs.List.{list_any, position_from}
 use Rattle.std.specs.Option.{option_or}
 use Rattle.std.specs.Result.{result_ok}
 use Rattle.cm_base.specs.CapSet.{IsCapSet}
 use Rattle.cm_base.specs.Limited.{limit_number}
 use Rattle.cm_base.specs.Limits.{greatest_number, minus_one}
-use Rattle.cm_base.specs.Names.{cap_of, errno_of}
+use Rattle.cm_base.specs.Names.{cap_of, errno_name, errno_of}
+use Rattle.cm_base.proofs.CapSets.{holds_none}
+use Rattle.cm_base.specs.declared.errno.Errno.TheVariants.{EPERM}
 use Rattle.cm_base.specs.Number.{is_number, value_of}
 use Rattle.cm_base.specs.declared.faults.LineFault.{LineFault}
 use Rattle.cm_base.specs.declared.faults.LineFault.TheVariants as fault
@@ -25,8 +27,11 @@ use Rattle.cm_base.specs.declared.res.FileRef.TheVariants.{Plain}
 use Rattle.cm_base.specs.declared.res.Res.{Res}
 use Rattle.cm_base.specs.declared.res.Res.TheVariants as res
 use Rattle.cm_filter.specs.declared.kind.CallKind.{CallKind}
-use Rattle.cm_filter.specs.Kinds.{kind_named}
-use Rattle.cm_filter.specs.Shapes.{ResultForm, DoneOrError, DoneAlone, OldId, ChildOrError, Just, Ids, Triples, result_form}
+use Rattle.cm_filter.specs.declared.kind.CallKind.TheVariants as kind
+use Rattle.cm_filter.specs.Kinds.{kind_named, kind_number}
+use Rattle.cm_filter.specs.Shapes.{ResultForm, DoneOrError, DoneAlone, OldId, ChildOrError, Just, Ids, Triples, Kinds, result_form}
+use Rattle.cm_filter.specs.Filters.{Filter, excludes, no_filter, filter_excluding, excluded_kinds}
+use Rattle.cm_filter.proofs.Excluded.{excluding_filter, excluded_are, fold_excludes}
 use Rattle.model_cred.specs.Call.{Call, Event, kind_of}
 use Rattle.model_cred.specs.Files.{FileTable, IsDeclared, file_named, ref_of, row_named}
 use Rattle.model_cred.specs.IdMap.{Extent}
@@ -36,12 +41,13 @@ use Rattle.model_text.proofs.CapTexts.{if_there, if_then, if_mapped, if_either, 
 use Rattle.model_text.proofs.ReadBack.{lines_read_back}
 use Rattle.model_text.proofs.Starts.{start_names}
 use Rattle.model_text.proofs.Values.{named_within}
-use Rattle.model_text.specs.Arguments.{Form, AnId, ANumber, ACap, ASet, ASpace, AWord, AFile, Pattern, form_at}
+use Rattle.model_text.specs.Arguments.{Form, AnId, ANumber, ACap, ASet, ASpace, AWord, AFile, AKind, Pattern, form_at}
 use Rattle.model_text.specs.Arguments.{pattern_of, takes}
-use Rattle.model_text.specs.Arguments.{Argument, Id, Number, Cap, Set, Space, Word, File, argument_token, arguments_of}
+use Rattle.model_text.specs.Arguments.{Argument, Id, Number, Cap, Set, Space, Word, File, Kind, argument_token, arguments_of}
 use Rattle.model_text.specs.Arguments.{triple_of}
-use Rattle.model_text.specs.Arguments.{call_with, ids_in, extents_in, value_in, values_in, carried_in}
+use Rattle.model_text.specs.Arguments.{call_with, ids_in, extents_in, kinds_in, value_in, values_in, carried_in}
 use Rattle.model_text.specs.Arguments.{as_argument, as_arguments, carried_as}
+use Rattle.model_cred.specs.Carried.{Carries}
 use Rattle.model_text.specs.CapText.{set_of_text}
 use Rattle.model_text.specs.Cut.{tokens_of}
 use Rattle.model_text.specs.Line.{Line, NoEvent, Tells, Faulty, Exceeds, Tokens, Parts, parts_of, argument_before}
@@ -51,10 +57,11 @@ use Rattle.model_text.specs.Line.{script_line}
 use Rattle.model_text.specs.NameText.{is_path}
 use Rattle.model_text.specs.SpaceToken.{hash_number, number_named, space_of_token}
 use Rattle.model_text.specs.Token.{birth_token, cap_token, done_token, file_token, id_token, is_comment, number_token}
-use Rattle.model_text.specs.Token.{old_id_token, pid_token}
+use Rattle.model_text.specs.Token.{old_id_token, pid_token, kind_token, can_be_excluded, excludable, excluded_token}
 use Rattle.model_text.specs.Token.{result_token, word_token}
 use Rattle.model_text.specs.WorldText.{Reads, world_text}
-use Rattle.model_text.specs.Written.{IsInRange, IsOutcome, IsBirth, IsOldId, IsOfForm, MayAnswer, IsWritable, LinesReadBack}
+use Rattle.model_text.specs.Written.{IsInRange, IsOutcome, IsBirth, IsOldId, IsOfForm, MayAnswer, CarriesFilter}
+use Rattle.model_text.specs.Written.{InstallsFilter, IsWritable, LinesReadBack}
 use Rattle.model_text.specs.Written.{ToldAreWritable, ToldReadBack}
 
 -- ---- numbers, pids, capabilities, spaces
@@ -138,6 +145,12 @@ file_declared files text =
     (λ _. cond_both (is_path text) (Some (file_named files text)) None IsGood (λ _. named_declared files text)
     (λ _. tt))
 
+-- ---- names of calls
+excludable_can : (named : Option CallKind) → IfSome (excludable named) (λ kind. IsTrue (can_be_excluded kind))
+excludable_can None = tt
+excludable_can (Some kind) =
+    cond_both (can_be_excluded kind) (Some kind) None (λ o. IfSome o (λ kind. IsTrue (can_be_excluded kind))) (λ can. can) (λ _. tt)
+
 -- ---- arguments
 argument_fits : (w : World) (form : Form) (text : List ℕ) → AreFew w → IfSome (argument_token w form text) (IsInRange w)
 argument_fits w AnId text few = if_mapped Fits (IsInRange w) Id (id_token text) (id_fits text) (λ n fits. fits)
@@ -153,6 +166,8 @@ argument_fits w AWord text few =
 argument_fits w AFile text few =
     if_mapped (IsDeclared w.files) (IsInRange w) File (file_token w.files text) (file_declared w.files text)
     (λ file is. is)
+argument_fits w AKind text few =
+    if_mapped (λ kind. IsTrue (can_be_excluded kind)) (IsInRange w) Kind (kind_token text) (excludable_can (kind_named text)) (λ kind can. can)
 
 -- one argument more before others
 before_fits : (w : World) (number : ℕ) (first : Option Argument) (rest : Result (List Argument) ℕ) (arguments : List Argument)
@@ -174,91 +189,130 @@ arguments_fit w pattern place (token ∷ tokens) arguments few is =
     (λ more there. arguments_fit w pattern (place + 1) tokens more few there) is
 
 -- ---- calls
--- ids, and triples of numbers, are those that they are read from
-ids_are : (arguments : List Argument) → IfSome (ids_in arguments) (λ ids. map Id ids ≡ arguments)
-ids_are [] = refl
-ids_are (Id n ∷ more) =
-    if_mapped (λ ids. map Id ids ≡ more) (λ ids. map Id ids ≡ Id n ∷ more) (λ (ids : List ℕ). n ∷ ids) (ids_in more)
-    (ids_are more)
-    (λ ids same. ap (λ (list : List Argument). Id n ∷ list) same)
-ids_are (_ ∷ more) = tt
+-- What is carried is in its ranges where the arguments are, of which it is made.
+pub record IsMade (w : World) (pattern : Pattern) (arguments : List Argument) (carried : Carries pattern) : Type 0 where
+  pub filter : CarriesFilter pattern carried
+  pub fit : All (IsInRange w) arguments → All (IsInRange w) (carried_as pattern carried)
 
-extents_are : (arguments : List Argument) → IfSome (extents_in arguments) (λ list. flat_map triple_of list ≡ arguments)
-extents_are [] = refl
-extents_are (Number i ∷ Number o ∷ Number n ∷ more) =
-    if_mapped (λ list. flat_map triple_of list ≡ more)
-    (λ list. flat_map triple_of list ≡ Number i ∷ Number o ∷ Number n ∷ more)
-    (λ (list : List Extent). record { inside = i; outside = o; length = n } ∷ list) (extents_in more) (extents_are more)
-    (λ list same. ap (λ (others : List Argument). Number i ∷ Number o ∷ Number n ∷ others) same)
-extents_are _ = tt
+module _ (w : World) where
+  -- ids, and triples of numbers, are those that they are read from
+  ids_are : (arguments : List Argument) → IfSome (ids_in arguments) (λ ids. map Id ids ≡ arguments)
+  ids_are [] = refl
+  ids_are (Id n ∷ more) =
+      if_mapped (λ ids. map Id ids ≡ more) (λ ids. map Id ids ≡ Id n ∷ more) (λ (ids : List ℕ). n ∷ ids) (ids_in more)
+      (ids_are more)
+      (λ ids same. ap (λ (list : List Argument). Id n ∷ list) same)
+  ids_are (_ ∷ more) = tt
 
-value_is : (form : Form) (argument : Argument) → IfSome (value_in form argument) (λ value. as_argument form value ≡ argument)
-value_is AnId (Id n) = refl
-value_is ANumber (Number n) = refl
-value_is ACap (Cap n) = refl
-value_is ASet (Set n) = refl
-value_is ASpace (Space n) = refl
-value_is AWord (Word deny) = refl
-value_is AFile (File file) = refl
-value_is _ _ = tt
+  extents_are : (arguments : List Argument) → IfSome (extents_in arguments) (λ list. flat_map triple_of list ≡ arguments)
+  extents_are [] = refl
+  extents_are (Number i ∷ Number o ∷ Number n ∷ more) =
+      if_mapped (λ list. flat_map triple_of list ≡ more)
+      (λ list. flat_map triple_of list ≡ Number i ∷ Number o ∷ Number n ∷ more)
+      (λ (list : List Extent). record { inside = i; outside = o; length = n } ∷ list) (extents_in more) (extents_are more)
+      (λ list same. ap (λ (others : List Argument). Number i ∷ Number o ∷ Number n ∷ others) same)
+  extents_are _ = tt
 
-values_are : (forms : List Form) (arguments : List Argument)
-    → IfSome (values_in forms arguments) (λ values. as_arguments forms values ≡ arguments)
-values_are [] [] = refl
-values_are (form ∷ forms) (argument ∷ more) =
-    if_then (λ value. as_argument form value ≡ argument) (λ values. as_arguments (form ∷ forms) values ≡ argument ∷ more)
-    (λ value. option_map (λ values. (value, values)) (values_in forms more)) (value_in form argument) (value_is form argument)
-    (λ value same. if_mapped (λ values. as_arguments forms values ≡ more)
-    (λ values. as_arguments (form ∷ forms) values ≡ argument ∷ more) (λ values. (value, values))
-    (values_in forms more) (values_are forms more)
-    (λ values others. rw (same, others) refl))
-values_are [] (argument ∷ more) = tt
-values_are (form ∷ forms) [] = tt
+  value_is : (form : Form) (argument : Argument) → IfSome (value_in form argument) (λ value. as_argument form value ≡ argument)
+  value_is AnId (Id n) = refl
+  value_is ANumber (Number n) = refl
+  value_is ACap (Cap n) = refl
+  value_is ASet (Set n) = refl
+  value_is ASpace (Space n) = refl
+  value_is AWord (Word deny) = refl
+  value_is AFile (File file) = refl
+  value_is AKind (Kind kind) = refl
+  value_is _ _ = tt
 
--- what is made of arguments is written as these
-carried_are : (pattern : Pattern) (arguments : List Argument)
-    → IfSome (carried_in pattern arguments) (λ carried. carried_as pattern carried ≡ arguments)
-carried_are (Just forms) arguments = values_are forms arguments
-carried_are Ids arguments = ids_are arguments
-carried_are Triples (Space space ∷ more) =
-    if_mapped (λ list. flat_map triple_of list ≡ more) (λ carried. carried_as Triples carried ≡ Space space ∷ more)
-    (λ list. (space, list)) (extents_in more) (extents_are more)
-    (λ list same. ap (λ (others : List Argument). Space space ∷ others) same)
-carried_are Triples _ = tt
+  values_are : (forms : List Form) (arguments : List Argument) → IfSome (values_in forms arguments) (λ values. as_arguments forms values ≡ arguments)
+  values_are [] [] = refl
+  values_are (form ∷ forms) (argument ∷ more) =
+      if_then (λ value. as_argument form value ≡ argument) (λ values. as_arguments (form ∷ forms) values ≡ argument ∷ more)
+      (λ value. option_map (λ values. (value, values)) (values_in forms more)) (value_in form argument) (value_is form argument)
+      (λ value same. if_mapped (λ values. as_arguments forms values ≡ more)
+      (λ values. as_arguments (form ∷ forms) values ≡ argument ∷ more) (λ values. (value, values))
+      (values_in forms more) (values_are forms more)
+      (λ values others. rw (same, others) refl))
+  values_are [] (argument ∷ more) = tt
+  values_are (form ∷ forms) [] = tt
 
--- The call is of the kind, and has these arguments.
-pub record IsMade (kind : CallKind) (arguments : List Argument) (call : Call) : Type 0 where
-  pub is : kind_of call ≡ kind
-  pub from : arguments_of call ≡ arguments
+  kinds_are : (arguments : List Argument) → IfSome (kinds_in arguments) (λ kinds. map Kind kinds ≡ arguments)
+  kinds_are [] = refl
+  kinds_are (Kind k ∷ more) =
+      if_mapped (λ kinds. map Kind kinds ≡ more) (λ kinds. map Kind kinds ≡ Kind k ∷ more) (λ (kinds : List CallKind). k ∷ kinds) (kinds_in more)
+      (kinds_are more)
+      (λ kinds same. ap (λ (list : List Argument). Kind k ∷ list) same)
+  kinds_are (_ ∷ more) = tt
 
-pub calls_made : (kind : CallKind) (arguments : List Argument) → IfSome (call_with kind arguments) (IsMade kind arguments)
-calls_made kind arguments =
-    if_mapped (λ carried. carried_as (pattern_of kind) carried ≡ arguments) (IsMade kind arguments) (λ carried. (kind, carried))
-    (carried_in (pattern_of kind) arguments) (carried_are (pattern_of kind) arguments)
-    (λ carried same. record { is = refl; from = same })
+  -- the kinds of a filter that excludes just some kinds can be excluded where those can
+  kinds_of_can : (kinds : List CallKind) → All (IsInRange w) (map Kind kinds) → All (IsInRange w) (map Kind (excluded_kinds (filter_excluding kinds)))
+  kinds_of_can kinds all =
+      let f : Filter = filter_excluding kinds in
+      All-map (IsInRange w) Kind (excluded_kinds f)
+      (All-weaker (λ k. excludes f k ≡ true) (λ k. IsInRange w (Kind k)) (λ k held. each k (among k held)) (excluded_kinds f)
+      (excluded_are f)) where
+        among : (k : CallKind) → excludes (filter_excluding kinds) k ≡ true → list_any (λ j. kind_number k == kind_number j) kinds ≡ true
+        among k held =
+            sym (fold_excludes no_filter kinds k ∙ ap (λ (b : Bool). b || list_any (λ j. kind_number k == kind_number j) kinds) (holds_none (kind_number k))) ∙ held
+
+        other : (j : CallKind) → IsTrue (can_be_excluded j) → (kind_number kind.Exit == kind_number j) ≡ false
+        other kind.Exit can = absurd (cc)
+        other _ can = refl
+
+        none : (list : List CallKind) → All (IsInRange w) (map Kind list) → list_any (λ j. kind_number kind.Exit == kind_number j) list ≡ false
+        none [] given = refl
+        none (j ∷ list) given =
+            or_from (kind_number kind.Exit == kind_number j) (list_any (λ i. kind_number kind.Exit == kind_number i) list)
+            (other j (All-head (IsInRange w) (Kind j) (map Kind list) given)) (none list (All-tail (IsInRange w) (Kind j) (map Kind list) given))
+
+        each : (k : CallKind) → list_any (λ j. kind_number k == kind_number j) kinds ≡ true → IsTrue (can_be_excluded k)
+        each kind.Exit some = absurd (false≢true (sym (none kinds all) ∙ some))
+        each _ some = refl
+
+  -- where the carried is written as the arguments, it is in its ranges where they are
+  as_they : (pattern : Pattern) (arguments : List Argument) (carried : Carries pattern) → CarriesFilter pattern carried
+      → carried_as pattern carried ≡ arguments → IsMade w pattern arguments carried
+  as_they pattern arguments carried is same = record { filter = is; fit = λ all. subst (All (IsInRange w)) (sym same) all }
+
+  pub carried_made : (pattern : Pattern) (arguments : List Argument) → IfSome (carried_in pattern arguments) (IsMade w pattern arguments)
+  carried_made (Just forms) arguments =
+      IfSome_then (values_in forms arguments) (values_are forms arguments) (λ values same. as_they (Just forms) arguments values tt same)
+  carried_made Ids arguments = IfSome_then (ids_in arguments) (ids_are arguments) (λ ids same. as_they Ids arguments ids tt same)
+  carried_made Triples (Space space ∷ more) =
+      if_mapped (λ list. flat_map triple_of list ≡ more) (IsMade w Triples (Space space ∷ more)) (λ list. (space, list)) (extents_in more)
+      (extents_are more)
+      (λ list same. as_they Triples (Space space ∷ more) (space, list) tt (ap (λ (others : List Argument). Space space ∷ others) same))
+  carried_made Triples _ = tt
+  carried_made Kinds arguments =
+      if_mapped (λ kinds. map Kind kinds ≡ arguments) (IsMade w Kinds arguments) filter_excluding (kinds_in arguments) (kinds_are arguments)
+      (λ kinds same. record {
+        filter = excluding_filter kinds;
+        fit = λ all. kinds_of_can kinds (subst (All (IsInRange w)) (sym same) all);
+      })
 
 -- What a call that is told is: of the kind, its arguments in their ranges.
 pub record IsCallOf (w : World) (kind : CallKind) (call : Call) : Type 0 where
   pub is : kind_of call ≡ kind
   pub fit : All (IsInRange w) (arguments_of call)
+  pub filter : InstallsFilter call
 
-pub made_fits : (w : World) (kind : CallKind) (arguments : List Argument) (call : Call) → All (IsInRange w) arguments
-    → IsMade kind arguments call
-    → IsCallOf w kind call
-made_fits w kind arguments call fit made = record { is = made.is; fit = subst (All (IsInRange w)) (sym made.from) fit }
+pub calls_made : (w : World) (kind : CallKind) (arguments : List Argument) → All (IsInRange w) arguments
+    → IfSome (call_with kind arguments) (IsCallOf w kind)
+calls_made w kind arguments fit =
+    if_mapped (IsMade w (pattern_of kind) arguments) (IsCallOf w kind) (λ carried. (kind, carried)) (carried_in (pattern_of kind) arguments)
+    (carried_made w (pattern_of kind) arguments)
+    (λ carried made. record { is = refl; fit = made.fit fit; filter = made.filter })
 
 -- the call of arguments that are read
 read_fits : (w : World) (kind : CallKind) (read : Result (List Argument) ℕ) (call : Call)
     → ((arguments : List Argument) → read ≡ Ok arguments → All (IsInRange w) arguments)
     → call_read kind read ≡ Ok call → IsCallOf w kind call
 read_fits w kind (Err n) call fit is = absurd (cc)
-read_fits w kind (Ok arguments) call fit is = by_made (call_with kind arguments) (calls_made kind arguments) is
+read_fits w kind (Ok arguments) call fit is = by_made (call_with kind arguments) (calls_made w kind arguments (fit arguments refl)) is
   where
-    by_made : (made : Option Call) → IfSome made (IsMade kind arguments) → ok_or made fault.Count ≡ Ok call → IsCallOf w kind call
+    by_made : (made : Option Call) → IfSome made (IsCallOf w kind) → ok_or made fault.Count ≡ Ok call → IsCallOf w kind call
     by_made None makes never = absurd (cc)
-    by_made (Some other) makes same =
-        let is_it : other ≡ call = cc in subst (IsCallOf w kind) is_it
-        (made_fits w kind arguments other (fit arguments refl) makes)
+    by_made (Some other) makes same = let is_it : other ≡ call = cc in subst (IsCallOf w kind) is_it makes
 
 told_fits : (w : World) (kind : CallKind) (tokens : Tokens) (call : Call) → AreFew w → call_told w kind tokens ≡ Ok call
     → IsCallOf w kind call
@@ -285,7 +339,10 @@ birth_may text =
     (λ e _. tt))
 
 old_id_may : (text : List ℕ) → IfSome (old_id_token text) IsOldId
-old_id_may text = if_mapped Fits IsOldId res.Id (number_token text) (number_fits text) (λ n fits. fits)
+old_id_may text =
+    if_either IsOldId (option_map res.Id (number_token text)) (excluded_token text)
+    (if_mapped Fits IsOldId res.Id (number_token text) (number_fits text) (λ n fits. fits))
+    (cond_both (bytes_eq text (errno_name EPERM)) (Some (res.Err EPERM)) None (λ o. IfSome o IsOldId) (λ _. refl) (λ _. tt))
 
 done_may : (text : List ℕ) → IfSome (done_token text) (λ answer. answer ≡ res.Done)
 done_may text =
@@ -341,6 +398,7 @@ line_writable w pid kind call (Some answer) is fits may =
       pid = is;
       arguments = fits.fit;
       groups = fit;
+      filter = fits.filter;
       result = subst (λ (k : CallKind). MayAnswer k answer)
           (sym fits.is) may;
     }))

@@ -43,7 +43,7 @@ whole why = Bad table.Whole 0 why
 
 -- a process with these user ids in the initial space, and all else by default
 abbrev pub process_of : ℕ → FourIds → Process
-process_of pid ids = record { pid = pid; forebear = None; space = 0; cred = default_cred ids }
+process_of pid ids = record { pid = pid; forebear = None; space = 0; cred = default_cred ids; filter = no_filter }
 
 -- ---- worlds
 pub worlds : record {

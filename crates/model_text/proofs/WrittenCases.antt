@@ -67,6 +67,7 @@ an_execve_can_be_written = record {
   pid = refl;
   arguments = All-cons (IsInRange the_world) (File (Row 2)) [] (lit≤ tt) (All-nil (IsInRange the_world));
   groups = refl;
+  filter = tt;
   result = tt;
 }
 
@@ -75,6 +76,7 @@ a_setns_can_be_written = record {
   pid = refl;
   arguments = All-cons (IsInRange the_world) (Space 4294967295) [] (lit≤ tt) (All-nil (IsInRange the_world));
   groups = refl;
+  filter = tt;
   result = tt;
 }
 

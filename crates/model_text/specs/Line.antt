@@ -73,7 +73,7 @@ call_told w kind tokens =
     if takes (pattern_of kind) (length tokens) then call_read kind (arguments_from w (pattern_of kind) 0 tokens) else Err fault.Count
 
 -- ---- the result
--- the result of the form: done or an error; done alone; the id from before; the child's pid or an error
+-- the result of the form: done or an error; done alone; the id from before or EPERM; the child's pid or an error
 abbrev pub result_of_form : ResultForm → List ℕ → Option Res
 result_of_form DoneOrError token = result_token token
 result_of_form DoneAlone token = done_token token

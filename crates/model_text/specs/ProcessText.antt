@@ -7,6 +7,7 @@ use Rattle.cm_base.specs.Limited.{limit_number}
 use Rattle.cm_base.specs.Limits.{last_pid}
 use Rattle.cm_base.specs.declared.faults.WorldFault.TheVariants.{TwiceNamed, NoSuchParent, NoSuchSpace, BadCaps, NotIncluded}
 use Rattle.cm_base.specs.declared.limited.Limited.TheVariants as limit
+use Rattle.cm_filter.specs.Filters.{no_filter}
 use Rattle.model_cred.specs.Credential.{Credential, FourIds, all_four, id_set}
 use Rattle.model_cred.specs.Process.{Process, insert_process, is_alive}
 use Rattle.model_text.specs.CapText.{set_of_text}
@@ -150,13 +151,14 @@ process_checks names before row =
     ∷ (Fault BadCaps, is_none (sets_declared row))
     ∷ (Fault NotIncluded, not (are_included (unwrap_or (sets_declared row) no_sets))) ∷ []
 
--- the process that a row without faults declares
+-- the process that a row without faults declares; its filter excludes nothing
 abbrev pub process_declared : List (List ℕ) → Members → Process
 process_declared names row = record {
   pid = pid_of row;
   forebear = parent_of_row row;
   space = unwrap_or (space_of_row names row) 0;
   cred = credential_with (unwrap_or (sets_declared row) no_sets) row;
+  filter = no_filter;
 }
 
 -- the processes, by ascending pid, with that of one row more

@@ -6,10 +6,14 @@ use Rattle.std.specs.Result.{result_ok}
 use Rattle.cm_base.specs.Limits.{minus_one}
 use Rattle.cm_base.specs.Number.{read_decimal}
 use Rattle.cm_base.specs.Names.{cap_name, cap_of, errno_name, errno_of}
+use Rattle.cm_base.specs.declared.errno.Errno.TheVariants.{EPERM}
 use Rattle.cm_base.specs.declared.res.Res.{Res}
 use Rattle.cm_base.specs.declared.res.Res.TheVariants.{Done, Id, Child, Err}
 use Rattle.cm_base.specs.declared.res.FileRef.{FileRef}
 use Rattle.cm_base.specs.declared.res.FileRef.TheVariants.{Row, Plain}
+use Rattle.cm_filter.specs.Kinds.{kind_named}
+use Rattle.cm_filter.specs.declared.kind.CallKind.{CallKind}
+use Rattle.cm_filter.specs.declared.kind.CallKind.TheVariants as kind
 use Rattle.model_cred.specs.Files.{FileTable, file_named}
 use Rattle.model_cred.specs.Process.{as_pid}
 use Rattle.model_text.specs.NameText.{is_path}
@@ -59,6 +63,21 @@ abbrev pub file_text : FileTable → FileRef → List ℕ
 file_text files Plain = codes "-"
 file_text files (Row n) = unwrap_or (option_map (λ row. row.path) (slice_get files.rows n)) (codes "-")
 
+-- ---- names of calls
+-- the call of the kind can be excluded by a filter that is installed: each can but exit (choice)
+abbrev pub can_be_excluded : CallKind → Bool
+can_be_excluded kind.Exit = false
+can_be_excluded _ = true
+
+-- such a kind, where the name is one
+abbrev pub excludable : Option CallKind → Option CallKind
+excludable None = None
+excludable (Some k) = if can_be_excluded k then Some k else None
+
+-- the name of a call that can be excluded
+abbrev pub kind_token : List ℕ → Option CallKind
+kind_token text = excludable (kind_named text)
+
 -- ---- results
 -- the result of a call that is done or refused: 0, or the name of an error
 abbrev pub result_token : List ℕ → Option Res
@@ -72,9 +91,13 @@ done_token text = if bytes_eq text (codes "0") then Some Done else None
 abbrev pub birth_token : List ℕ → Option Res
 birth_token text = option_or (option_map Child (pid_token text)) (option_map Err (errno_of text))
 
--- the result of a call that tells the id from before and has no error
+-- the refusal of a call that the caller's filter excludes
+abbrev pub excluded_token : List ℕ → Option Res
+excluded_token text = if bytes_eq text (errno_name EPERM) then Some (Err EPERM) else None
+
+-- the result of a call that tells the id from before, and has no other error than that
 abbrev pub old_id_token : List ℕ → Option Res
-old_id_token text = option_map Id (number_token text)
+old_id_token text = option_or (option_map Id (number_token text)) (excluded_token text)
 
 -- how a result is written
 abbrev pub res_text : Res → List ℕ

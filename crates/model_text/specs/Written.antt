@@ -7,16 +7,20 @@ use Rattle.cm_base.specs.declared.limited.Limited.TheVariants as limit
 use Rattle.cm_base.specs.declared.res.Res.{Res}
 use Rattle.cm_base.specs.declared.res.Res.TheVariants as res
 use Rattle.cm_filter.specs.declared.kind.CallKind.{CallKind}
-use Rattle.cm_filter.specs.Shapes.{ResultForm, DoneOrError, DoneAlone, OldId, ChildOrError, result_form}
-use Rattle.model_cred.specs.Call.{Event, kind_of}
+use Rattle.cm_base.specs.declared.errno.Errno.TheVariants.{EPERM}
+use Rattle.cm_filter.specs.Filters.{IsFilter}
+use Rattle.cm_filter.specs.Shapes.{Pattern, Kinds, ResultForm, DoneOrError, DoneAlone, OldId, ChildOrError, pattern_of, result_form}
+use Rattle.model_cred.specs.Call.{Call, Event, kind_of}
+use Rattle.model_cred.specs.Carried.{Carries}
 use Rattle.model_cred.specs.Files.{IsDeclared}
 use Rattle.model_cred.specs.Process.{is_pid}
 use Rattle.model_cred.specs.World.{World}
-use Rattle.model_text.specs.Arguments.{Argument, Id, Number, Cap, Set, Space, Word, File, arguments_of}
+use Rattle.model_text.specs.Arguments.{Argument, Id, Number, Cap, Set, Space, Word, File, Kind, arguments_of}
 use Rattle.model_text.specs.Line.{Tells, groups_fit, script_line}
 use Rattle.model_text.specs.NameText.{is_name, is_path}
 use Rattle.model_text.specs.Print.{event_text}
 use Rattle.model_text.specs.Reading.{Placed, AtEnd, script_reading}
+use Rattle.model_text.specs.Token.{can_be_excluded}
 use Rattle.model_text.specs.WorldText.{Reads, world_text}
 
 -- The names are names, and no two are equal.
@@ -38,7 +42,8 @@ pub record KeepsNames (w : World) : Type 0 where
 unfoldable pub DeclaredNamesKeep : Type 0
 DeclaredNamesKeep = (bytes : List ℕ) (w : World) → world_text bytes ≡ Reads w → KeepsNames w
 
--- the argument is in its range: a number of 32 bits, a set of capabilities, a file of the table
+-- the argument is in its range: a number of 32 bits, a set of capabilities, a file of the table, a call that can be
+-- excluded
 abbrev pub IsInRange : World → Argument → Type 0
 IsInRange w (Id n) = n ≤ greatest_number
 IsInRange w (Number n) = n ≤ greatest_number
@@ -47,6 +52,7 @@ IsInRange w (Set n) = IsCapSet n
 IsInRange w (Space n) = n ≤ greatest_number
 IsInRange w (Word deny) = Unit {0}
 IsInRange w (File file) = IsDeclared w.files file
+IsInRange w (Kind kind) = IsTrue (can_be_excluded kind)
 
 -- done or refused
 abbrev pub IsOutcome : Res → Type 0
@@ -60,9 +66,10 @@ IsBirth (res.Child pid) = IsTrue (is_pid pid)
 IsBirth (res.Err e) = Unit {0}
 IsBirth _ = ⊥
 
--- an id from before
+-- an id from before, or EPERM
 abbrev pub IsOldId : Res → Type 0
 IsOldId (res.Id n) = n ≤ greatest_number
+IsOldId (res.Err e) = e ≡ EPERM
 IsOldId _ = ⊥
 
 -- the result is of the form
@@ -76,11 +83,21 @@ IsOfForm ChildOrError answer = IsBirth answer
 abbrev pub MayAnswer : CallKind → Res → Type 0
 MayAnswer kind answer = IsOfForm (result_form kind) answer
 
+-- what is carried is a filter, where it should be one
+abbrev pub CarriesFilter : (pattern : Pattern) → Carries pattern → Type 0
+CarriesFilter Kinds more = IsFilter more
+CarriesFilter _ _ = Unit {0}
+
+-- the filter that a call installs, if it does, is one
+abbrev pub InstallsFilter : Call → Type 0
+InstallsFilter call = CarriesFilter (pattern_of (kind_of call)) call.1
+
 -- An event over a world: its pid, its arguments and its result are in their ranges, and its groups are within their limit.
 pub record IsWritable (w : World) (e : Event) : Type 0 where
   pub pid : IsTrue (is_pid e.pid)
   pub arguments : All (IsInRange w) (arguments_of e.call)
   pub groups : IsTrue (groups_fit e.call)
+  pub filter : InstallsFilter e.call
   pub result : MayAnswer (kind_of e.call) e.res
 
 -- What was written of an event over a world that a text declares is read again as the same event.

@@ -1,6 +1,7 @@
 -- On what a verdict depends.
 use Rattle.std.proofs.Common.{◌≡◌, ℕ, zero, suc, Bool, true, false, List, Option, None, Some, option_map, refl, sym, ap, ◌∙◌, inl, inr, subst}
 use Rattle.std.specs.Prelude.{IsTrue}
+use Rattle.cm_filter.specs.Filters.{Filter, permits, either}
 use Rattle.cm_filter.specs.declared.kind.CallKind.{CallKind}
 use Rattle.model_cred.specs.Credential.{Credential}
 use Rattle.model_cred.specs.Files.{FileTable}
@@ -13,6 +14,8 @@ use Rattle.model_rules.specs.Securebits.{has_flag, noroot}
 use Rattle.model_rules.specs.Zero.{has_zero}
 use Rattle.model_run.specs.Family.{family}
 use Rattle.model_run.specs.Later.{is_member}
+use Rattle.model_run.specs.Own.{filter_in, common_filter}
+use Rattle.model_run.proofs.Filters.{shared_alike}
 use Rattle.model_box.specs.Row.{Part, Row, Standing, Fresh, CredHas, IsWithin}
 use Rattle.model_box.specs.Covers.{StateFits}
 use Rattle.model_box.specs.Encloses.{Encloses}
@@ -21,34 +24,31 @@ use Rattle.model_box.specs.Laws.{tested}
 use Rattle.model_box.specs.Start.{StartHas}
 use Rattle.model_box.proofs.Monotone.{adds_more, meets_more, meets_at_more}
 use Rattle.model_box.proofs.Starts.{covers_start, holds_start}
-use Rattle.model_plans.specs.Move.{Seat, seat_of, MayCall}
+use Rattle.model_plans.specs.Move.{Seat, seat_of}
 use Rattle.model_plans.specs.PlanRun.{first_found}
-use Rattle.model_plans.specs.Shortcuts.{MembersSeatsDecide}
+use Rattle.model_plans.specs.Shortcuts.{AreSeatedAlike, MembersSeatsDecide}
 use Rattle.model_plans.proofs.Isolated.{members_seats_decide}
 use Rattle.model_verdict.specs.Least.{Test, Says, IsLeast, AllMeet}
 use Rattle.model_verdict.specs.Sweep.{turn_at, swept}
 use Rattle.model_verdict.specs.Blame.{Blame, AtStart, ByTurn, IsBlame}
-use Rattle.model_verdict.specs.Settled.{EachMember, HasNone, IsPlain, Settled, serves, NoneServes, RootGainsNone, ProgramsGiveNone}
-use Rattle.model_verdict.specs.Verdict.{Verdict, No, Yes, Undecided, IsVerdict}
+use Rattle.model_verdict.specs.Settled.{EachMember, HasNone, IsPlain, Settled, SettledIn, serves, NoneServes, RootGainsNone, ProgramsGiveNone}
+use Rattle.model_verdict.specs.Verdict.{Verdict, No, Yes, Undecided, VerdictIn, BlameIn}
+use Rattle.model_verdict.specs.Decides.{AllMeetIn, LeastIn}
 use Rattle.model_verdict.specs.Alike.{SameVerdict, AlikeFamilies}
 
--- the members are at the same seats
-abbrev Seated : State → State → List ℕ → Type 0
-Seated s t members = (pid : ℕ) → IsTrue (is_member members pid)
-    → option_map seat_of (process_at s.processes pid) ≡ option_map seat_of (process_at t.processes pid)
-
--- a process at the same seat
+-- a process at the same seat, under the same filter
 record Like (p : Process) (o : Option Process) : Type 0 where
   other : Process
   is : o ≡ Some other
   space : p.space ≡ other.space
   cred : p.cred ≡ other.cred
+  filter : p.filter ≡ other.filter
 
-like : (p : Process) (o : Option Process) → Some (seat_of p) ≡ option_map seat_of o → Like p o
-like p None same = absurd (cc)
-like p (Some other) same =
+like : (p : Process) (o : Option Process) → Some (seat_of p) ≡ option_map seat_of o → p.filter ≡ filter_in o → Like p o
+like p None same filter = absurd (cc)
+like p (Some other) same filter =
     let one : seat_of p ≡ seat_of other = cc in
-    record { other = other; is = refl; space = ap (λ (x : Seat). x.space) one; cred = ap (λ (x : Seat). x.cred) one }
+    record { other = other; is = refl; space = ap (λ (x : Seat). x.space) one; cred = ap (λ (x : Seat). x.cred) one; filter = filter }
 
 -- the test says what bounds of the same meaning hold
 says_same : (below : Test) (one two : Row → Part → ℕ → Type 0) → IsWithin one two → IsWithin two one → Says below one → Says below two
@@ -59,9 +59,10 @@ says_same below one two forth back says row part x =
 abbrev state_of : List Process → Spaces → State
 state_of ps spaces = record { processes = ps; spaces = spaces }
 
-module _ (spaces : Spaces) (ps qs : List Process) (members : List ℕ) (seated : Seated (state_of ps spaces) (state_of qs spaces) members) where
+module _ (spaces : Spaces) (ps qs : List Process) (members : List ℕ) (seated : AreSeatedAlike (state_of ps spaces) (state_of qs spaces) members) where
   like_in : (pid : ℕ) (p : Process) → IsTrue (is_member members pid) → process_at ps pid ≡ Some p → Like p (process_at qs pid)
-  like_in pid p member at = like p (process_at qs pid) (sym (ap (option_map seat_of) at) ∙ seated pid member)
+  like_in pid p member at =
+      like p (process_at qs pid) (sym (ap (option_map seat_of) at) ∙ (seated pid member).0) (sym (ap filter_in at) ∙ (seated pid member).1)
 
   start_like : IsWithin (StartHas (state_of ps spaces) members) (StartHas (state_of qs spaces) members)
   start_like (Standing n) part x (inl (pid, p, member, at, space, has)) =
@@ -85,7 +86,7 @@ plain_like spaces p other space cred it = record {
 
 -- ---- one way
 module _ (permitted : CallKind → Bool) (files : FileTable) (spaces : Spaces) (ps qs : List Process) (members : List ℕ) (right : Right)
-    (forth : Seated (state_of ps spaces) (state_of qs spaces) members) (back : Seated (state_of qs spaces) (state_of ps spaces) members) where
+    (forth : AreSeatedAlike (state_of ps spaces) (state_of qs spaces) members) (back : AreSeatedAlike (state_of qs spaces) (state_of ps spaces) members) where
   abbrev s : State
   s = record { processes = ps; spaces = spaces }
 
@@ -114,13 +115,15 @@ module _ (permitted : CallKind → Bool) (files : FileTable) (spaces : Spaces) (
         (turn_at spaces k).rule (turn_at spaces k).row part x added,
   )
 
-  settled_like : (own other : MayCall) → ((pid : ℕ) → IsTrue (is_member members pid) → (kind : CallKind) → own pid kind ≡ other pid kind)
-      → Settled other permitted files t members → Settled own permitted files s members
-  settled_like own other same it = record {
+  settled_like : Settled permitted files t members → Settled permitted files s members
+  settled_like it = record {
     plain = each_like spaces ps qs members forth (IsPlain spaces) (plain_like spaces) it.plain;
     excluded = it.excluded;
     programs = programs it.programs;
-    same = λ pid member kind. same pid member kind ∙ it.same pid member kind;
+    same = λ pid p member at other q member_too at_too.
+        let one : Like p (process_at qs pid) = like_in spaces ps qs members forth pid p member at in
+        let two : Like q (process_at qs other) = like_in spaces ps qs members forth other q member_too at_too in
+        one.filter ∙ it.same pid one.other member one.is other two.other member_too two.is ∙ sym two.filter;
   } where
     serves_like : NoneServes files t members → NoneServes files s members
     serves_like none =
@@ -147,7 +150,7 @@ module _ (permitted : CallKind → Bool) (files : FileTable) (spaces : Spaces) (
 
 -- ---- what rests on both ways
 module _ (permitted : CallKind → Bool) (files : FileTable) (spaces : Spaces) (ps qs : List Process) (members : List ℕ) (right : Right)
-    (forth : Seated (state_of ps spaces) (state_of qs spaces) members) (back : Seated (state_of qs spaces) (state_of ps spaces) members) where
+    (forth : AreSeatedAlike (state_of ps spaces) (state_of qs spaces) members) (back : AreSeatedAlike (state_of qs spaces) (state_of ps spaces) members) where
   least_like : StateFits (state_of ps spaces) → StateFits (state_of qs spaces) → (bounds : Test)
       → IsLeast permitted files (state_of ps spaces) members bounds → IsLeast permitted files (state_of qs spaces) members bounds
   least_like fits fits_too bounds it = record {
@@ -181,58 +184,79 @@ module _ (permitted : CallKind → Bool) (files : FileTable) (spaces : Spaces) (
       → AllMeet permitted files (state_of qs spaces) members right
   all_meet_like fits all bounds given = all bounds (encloses_like permitted files spaces qs ps members right back forth fits bounds given)
 
--- the verdict, one way
-verdict_like : (own other : MayCall) (permitted : CallKind → Bool) (w : World) (spaces : Spaces) (ps qs : List Process) (members : List ℕ) (right : Right)
-    → StateFits (state_of ps spaces) → StateFits (state_of qs spaces)
-    → Seated (state_of ps spaces) (state_of qs spaces) members → Seated (state_of qs spaces) (state_of ps spaces) members
-    → first_found own w (state_of ps spaces) members right ≡ first_found other w (state_of qs spaces) members right
-    → (verdict : Verdict) → IsVerdict own permitted w (state_of ps spaces) members right verdict
-    → IsVerdict other permitted w (state_of qs spaces) members right verdict
-verdict_like own other permitted w spaces ps qs members right fits fits_too forth back found (No x) is = sym found ∙ is
-verdict_like own other permitted w spaces ps qs members right fits fits_too forth back found (Yes bounds) (none_found, least, apart) =
-    (sym found ∙ none_found, least_like permitted w.files spaces ps qs members right forth back fits fits_too bounds least, apart)
-verdict_like own other permitted w spaces ps qs members right fits fits_too forth back found (Undecided blame below) (none_found, met, is) = (
-  sym found ∙ none_found,
-  all_meet_like permitted w.files spaces ps qs members right forth back fits met,
-  blame_like permitted w.files spaces ps qs members right forth back blame below is,
-)
+-- what the members may call together
+same_common : (w : World) (spaces : Spaces) (ps qs : List Process) (members : List ℕ) → AreSeatedAlike (state_of ps spaces) (state_of qs spaces) members
+    → common_filter w (state_of ps spaces) members ≡ common_filter w (state_of qs spaces) members
+same_common w spaces ps qs members forth =
+    ap (either w.filter) (shared_alike (state_of ps spaces) (state_of qs spaces) members (λ pid member. (forth pid member).1))
+
+-- ---- in a world, one way
+module _ (w : World) (spaces : Spaces) (ps qs : List Process) (members : List ℕ) (right : Right)
+    (forth : AreSeatedAlike (state_of ps spaces) (state_of qs spaces) members) (back : AreSeatedAlike (state_of qs spaces) (state_of ps spaces) members)
+    (fits : StateFits (state_of ps spaces)) (fits_too : StateFits (state_of qs spaces)) where
+  abbrev may : CallKind → Bool
+  may = permits (common_filter w (state_of ps spaces) members)
+
+  least_in : (bounds : Test) → LeastIn w (state_of ps spaces) members bounds → LeastIn w (state_of qs spaces) members bounds
+  least_in bounds it =
+      subst (λ (f : Filter). IsLeast (permits f) w.files (state_of qs spaces) members bounds) (same_common w spaces ps qs members forth)
+      (least_like may w.files spaces ps qs members right forth back fits fits_too bounds it)
+
+  blame_in : (blame : Blame) (below : Test) → BlameIn w (state_of ps spaces) members right blame below → BlameIn w (state_of qs spaces) members right blame below
+  blame_in blame below it =
+      subst (λ (f : Filter). IsBlame (permits f) w.files (state_of qs spaces) members right blame below) (same_common w spaces ps qs members forth)
+      (blame_like may w.files spaces ps qs members right forth back blame below it)
+
+  all_meet_in : AllMeetIn w (state_of ps spaces) members right → AllMeetIn w (state_of qs spaces) members right
+  all_meet_in all =
+      subst (λ (f : Filter). AllMeet (permits f) w.files (state_of qs spaces) members right) (same_common w spaces ps qs members forth)
+      (all_meet_like may w.files spaces ps qs members right forth back fits all)
+
+  settled_in : SettledIn w (state_of ps spaces) members → SettledIn w (state_of qs spaces) members
+  settled_in it =
+      subst (λ (f : Filter). Settled (permits f) w.files (state_of qs spaces) members) (same_common w spaces ps qs members forth)
+      (settled_like may w.files spaces qs ps members right back forth it)
+
+  verdict_in : first_found (permits w.filter) w (state_of ps spaces) members right ≡ first_found (permits w.filter) w (state_of qs spaces) members right
+      → (verdict : Verdict) → VerdictIn w (state_of ps spaces) members right verdict → VerdictIn w (state_of qs spaces) members right verdict
+  verdict_in found (No x) is = sym found ∙ is
+  verdict_in found (Yes bounds) (none_found, least, apart) = (sym found ∙ none_found, least_in bounds least, apart)
+  verdict_in found (Undecided blame below) (none_found, met, is) = (sym found ∙ none_found, all_meet_in met, blame_in blame below is)
 
 -- ---- all of it
-same_verdict : (own other : MayCall) (permitted : CallKind → Bool) (w : World) (spaces : Spaces) (ps qs : List Process) (members : List ℕ) (right : Right)
-    → StateFits (state_of ps spaces) → StateFits (state_of qs spaces) → Seated (state_of ps spaces) (state_of qs spaces) members
-    → ((pid : ℕ) → IsTrue (is_member members pid) → (kind : CallKind) → own pid kind ≡ other pid kind)
-    → SameVerdict own other permitted w (state_of ps spaces) (state_of qs spaces) members members right
+same_verdict : (w : World) (spaces : Spaces) (ps qs : List Process) (members : List ℕ) (right : Right)
+    → StateFits (state_of ps spaces) → StateFits (state_of qs spaces) → AreSeatedAlike (state_of ps spaces) (state_of qs spaces) members
+    → SameVerdict w (state_of ps spaces) (state_of qs spaces) members members right
 unfolding MembersSeatsDecide
-same_verdict own other permitted w spaces ps qs members right fits fits_too forth calls =
-    let back : Seated (state_of qs spaces) (state_of ps spaces) members = λ pid member. sym (forth pid member) in
-    let found : first_found own w (state_of ps spaces) members right ≡ first_found other w (state_of qs spaces) members right
-    = members_seats_decide own other w (state_of ps spaces) (state_of qs spaces) members right refl
-    (λ pid member. (forth pid member, calls pid member)) in
+same_verdict w spaces ps qs members right fits fits_too forth =
+    let back : AreSeatedAlike (state_of qs spaces) (state_of ps spaces) members = λ pid member. (sym (forth pid member).0, sym (forth pid member).1) in
+    let found : first_found (permits w.filter) w (state_of ps spaces) members right ≡ first_found (permits w.filter) w (state_of qs spaces) members right
+    = members_seats_decide (permits w.filter) w (state_of ps spaces) (state_of qs spaces) members right refl forth in
     record {
       verdict = λ verdict. (
-        verdict_like own other permitted w spaces ps qs members right fits fits_too forth back found verdict,
-        verdict_like other own permitted w spaces qs ps members right fits_too fits back forth (sym found) verdict,
+        verdict_in w spaces ps qs members right forth back fits fits_too found verdict,
+        verdict_in w spaces qs ps members right back forth fits_too fits (sym found) verdict,
       );
       found = found;
       least = λ bounds. (
-        least_like permitted w.files spaces ps qs members right forth back fits fits_too bounds,
-        least_like permitted w.files spaces qs ps members right back forth fits_too fits bounds,
+        least_in w spaces ps qs members right forth back fits fits_too bounds,
+        least_in w spaces qs ps members right back forth fits_too fits bounds,
       );
       blame = λ blame below. (
-        blame_like permitted w.files spaces ps qs members right forth back blame below,
-        blame_like permitted w.files spaces qs ps members right back forth blame below,
+        blame_in w spaces ps qs members right forth back fits fits_too blame below,
+        blame_in w spaces qs ps members right back forth fits_too fits blame below,
       );
       settled = (
-        settled_like permitted w.files spaces qs ps members right back forth other own (λ pid member kind. sym (calls pid member kind)),
-        settled_like permitted w.files spaces ps qs members right forth back own other calls,
+        settled_in w spaces ps qs members right forth back fits fits_too,
+        settled_in w spaces qs ps members right back forth fits_too fits,
       );
     }
 
 pub alike_families : AlikeFamilies
 unfolding AlikeFamilies
-alike_families own other permitted w s t root right fits fits_too alike =
-    subst (λ (others : List ℕ). SameVerdict own other permitted w s t (family s root) others right) alike.pids
+alike_families w s t root right fits fits_too alike =
+    subst (λ (others : List ℕ). SameVerdict w s t (family s root) others right) alike.pids
     (subst (λ (spaces : Spaces). StateFits (state_of t.processes spaces)
-    → SameVerdict own other permitted w s (state_of t.processes spaces) (family s root) (family s root) right) alike.spaces
-    (λ given. same_verdict own other permitted w s.spaces s.processes t.processes (family s root) right fits given alike.seats alike.calls)
+    → SameVerdict w s (state_of t.processes spaces) (family s root) (family s root) right) alike.spaces
+    (λ given. same_verdict w s.spaces s.processes t.processes (family s root) right fits given alike.members)
     fits_too)

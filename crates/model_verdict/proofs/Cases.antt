@@ -6,8 +6,8 @@ use Rattle.std.specs.Prelude.{IsTrue, All, if◌then◌else◌}
 use Rattle.std.proofs.lemmas.Bool.{eqb-true, false≢true, or_cases}
 use Rattle.cm_filter.specs.declared.kind.CallKind.{CallKind}
 use Rattle.cm_filter.specs.declared.kind.CallKind.TheVariants as kind
-use Rattle.cm_filter.specs.Filters.{permits}
-use Rattle.model_cred.specs.Call.{SetResUid}
+use Rattle.cm_filter.specs.Filters.{Filter, no_filter, permits}
+use Rattle.model_cred.specs.Call.{SetReUid, SetResUid}
 use Rattle.model_cred.specs.Credential.{Included, all_four}
 use Rattle.model_cred.specs.Files.{FileTable, plain_mount}
 use Rattle.model_cred.specs.Process.{Process, State}
@@ -27,14 +27,14 @@ use Rattle.model_box.specs.Laws.{tested}
 use Rattle.model_box.specs.Spread.{Brings}
 use Rattle.model_box.specs.Start.{StartHas}
 use Rattle.model_box.proofs.Starts.{holds_start}
-use Rattle.model_plans.specs.Move.{MayCall}
+use Rattle.model_run.specs.Own.{common_filter}
 use Rattle.model_plans.specs.PlanRun.{first_found}
-use Rattle.model_verdict.specs.Least.{Test, AllMeet}
+use Rattle.model_verdict.specs.Least.{Test}
 use Rattle.model_verdict.specs.Sweep.{turn_at}
 use Rattle.model_verdict.specs.Settled.{EachMember, HasNone, AreWritten, IsPlain, ExcludesSpaces, serves, NoneServes, RootGainsNone}
-use Rattle.model_verdict.specs.Settled.{ProgramsGiveNone, Settled}
+use Rattle.model_verdict.specs.Settled.{ProgramsGiveNone, Settled, SettledIn}
 use Rattle.model_verdict.specs.Back.{TakeBack, MapsTakeBack}
-use Rattle.model_verdict.specs.Decides.{IsOpen, SettledIsNeverOpen}
+use Rattle.model_verdict.specs.Decides.{AllMeetIn, OpenIn, SettledIsNeverOpen}
 use Rattle.model_verdict.proofs.Decided.{settled_is_never_open}
 use Rattle.model_verdict.proofs.MapsBack.{maps_take_back}
 
@@ -100,8 +100,15 @@ keeper = process 100 (record (user 1000) { uid = record (all_four 1000) { saved 
 abbrev with_child : Spaces
 with_child = space 0 500 (ids 0 500 1 ∷ []) ∷ initial_space ∷ []
 
+-- the same where it has installed a filter
+abbrev keeper_under : Filter → Process
+keeper_under filter = record keeper { filter = filter }
+
+abbrev kept_under : Filter → State
+kept_under filter = record { processes = keeper_under filter ∷ []; spaces = with_child }
+
 abbrev kept : State
-kept = record { processes = keeper ∷ []; spaces = with_child }
+kept = kept_under no_filter
 
 abbrev no_new_spaces : World
 no_new_spaces = record world { filter = 0x1c0000 }
@@ -112,22 +119,25 @@ above_initial n above = elim (or_cases (0 == n) false above) [
   | inr wrong ↦ absurd (false≢true wrong)
 ]
 
-settled_with : (permitted : CallKind → Bool) → ExcludesSpaces permitted → Settled (λ pid. permitted) permitted no_new_spaces.files kept (100 ∷ [])
-settled_with permitted excluded = record {
-  plain = each_alone keeper with_child (100 ∷ []) (IsPlain with_child) (record {
+settled_with : (filter : Filter) (permitted : CallKind → Bool) → ExcludesSpaces permitted
+    → Settled permitted no_new_spaces.files (kept_under filter) (100 ∷ [])
+settled_with filter permitted excluded = record {
+  plain = each_alone (keeper_under filter) with_child (100 ∷ []) (IsPlain with_child) (record {
     has_none = record { permitted = refl; effective = refl; inheritable = refl; ambient = refl };
     written = above_initial;
   });
   excluded = excluded;
-  programs = inl (each_alone keeper with_child (100 ∷ []) (λ p. p.cred.no_new_privs ≡ true) refl);
-  same = λ pid member kind. refl;
+  programs = inl (each_alone (keeper_under filter) with_child (100 ∷ []) (λ p. p.cred.no_new_privs ≡ true) refl);
+  same = each_alone (keeper_under filter) with_child (100 ∷ [])
+      (λ p. EachMember (kept_under filter) (100 ∷ []) (λ q. p.filter ≡ q.filter))
+      (each_alone (keeper_under filter) with_child (100 ∷ []) (λ q. filter ≡ q.filter) refl);
 }
 
-pub a_daemon_that_gains_nothing_is_settled : Settled (λ pid. permits no_new_spaces.filter) (permits no_new_spaces.filter) no_new_spaces.files kept (100 ∷ [])
-a_daemon_that_gains_nothing_is_settled = settled_with (permits no_new_spaces.filter) (no_spaces _ refl refl refl)
+pub a_daemon_that_gains_nothing_is_settled : SettledIn no_new_spaces kept (100 ∷ [])
+a_daemon_that_gains_nothing_is_settled = settled_with no_filter _ (no_spaces _ refl refl refl)
 
 -- it still gets what a saved user id brings
-pub it_gets_what_its_saved_id_brings : first_found (λ pid. permits no_new_spaces.filter) no_new_spaces kept (100 ∷ []) (Cap 5 1)
+pub it_gets_what_its_saved_id_brings : first_found (permits no_new_spaces.filter) no_new_spaces kept (100 ∷ []) (Cap 5 1)
     ≡ Some (record { run = done 100 (SetResUid minus_one 500 minus_one) ∷ []; holder = 100 })
 unfolding first_found
 it_gets_what_its_saved_id_brings = refl
@@ -136,17 +146,17 @@ it_gets_what_its_saved_id_brings = refl
 abbrev no_uid_calls : World
 no_uid_calls = record world { filter = 0x1c0007 }
 
-kept_fits : StateFits kept
-kept_fits = record {
+kept_fits : (filter : Filter) → StateFits (kept_under filter)
+kept_fits filter = record {
   tree = (omega arith, refl);
   stands = λ k d low. by k d low;
   included = λ k d low. in_it k d low;
 } where
-  by : (k : ℕ) (d : Process) → k < 1 → (get_or kept.processes k d).space < 2
+  by : (k : ℕ) (d : Process) → k < 1 → (get_or (kept_under filter).processes k d).space < 2
   by zero d low = omega arith
   by (suc k) d low = absurd (omega (arith, low))
 
-  in_it : (k : ℕ) (d : Process) → k < 1 → Included (get_or kept.processes k d).cred
+  in_it : (k : ℕ) (d : Process) → k < 1 → Included (get_or (kept_under filter).processes k d).cred
   in_it zero d low = record { effective = refl; ambient_permitted = refl; ambient_inheritable = refl }
   in_it (suc k) d low = absurd (omega (arith, low))
 
@@ -156,27 +166,39 @@ kept_maps zero d low = record { uids = maps_take_back _ refl; gids = maps_take_b
 kept_maps (suc zero) d low = record { uids = maps_take_back _ refl; gids = maps_take_back _ refl }
 kept_maps (suc (suc k)) d low = absurd (omega (arith, low))
 
-pub without_these_calls_it_never_does : AllMeet (permits no_uid_calls.filter) no_uid_calls.files kept (100 ∷ []) (Cap 5 1) → ⊥
+pub without_these_calls_it_never_does : AllMeetIn no_uid_calls kept (100 ∷ []) (Cap 5 1) → ⊥
 unfolding SettledIsNeverOpen first_found
 without_these_calls_it_never_does all =
-    settled_is_never_open (λ pid. permits no_uid_calls.filter) (permits no_uid_calls.filter) no_uid_calls kept (100 ∷ []) (Cap 5 1) kept_fits kept_maps
-    (settled_with (permits no_uid_calls.filter) (no_spaces _ refl refl refl)) (record { met = all; unfound = refl })
+    settled_is_never_open no_uid_calls kept (100 ∷ []) (Cap 5 1) (kept_fits no_filter) kept_maps
+    (settled_with no_filter _ (no_spaces _ refl refl refl)) (record { met = all; unfound = refl })
 
--- ---- members that may not call the same: who has the saved user id may not make it the effective one, and the other may
+-- the same by a filter that the process has installed itself, in a world that excludes nothing
+pub what_it_installed_leaves_setreuid : first_found (permits world.filter) world (kept_under 0x1c0004) (100 ∷ []) (Cap 5 1)
+    ≡ Some (record { run = done 100 (SetReUid minus_one 500) ∷ []; holder = 100 })
+unfolding first_found
+what_it_installed_leaves_setreuid = refl
+
+pub with_these_calls_installed_it_never_does : AllMeetIn world (kept_under 0x1c0007) (100 ∷ []) (Cap 5 1) → ⊥
+unfolding SettledIsNeverOpen first_found
+with_these_calls_installed_it_never_does all =
+    settled_is_never_open world (kept_under 0x1c0007) (100 ∷ []) (Cap 5 1) (kept_fits 0x1c0007) kept_maps
+    (settled_with 0x1c0007 _ (no_spaces _ refl refl refl)) (record { met = all; unfound = refl })
+
+-- ---- members with other filters: who has the saved user id may not make it the effective one, and the other may
+abbrev filtered : Process
+filtered = keeper_under 0x7
+
 abbrev neighbour : Process
 neighbour = process 101 (record (user 1000) { no_new_privs = true })
 
 abbrev keeper_and_neighbour : State
-keeper_and_neighbour = record { processes = keeper ∷ neighbour ∷ []; spaces = with_child }
+keeper_and_neighbour = record { processes = filtered ∷ neighbour ∷ []; spaces = with_child }
 
-abbrev by_member : MayCall
-by_member pid = permits (if pid == 100 then no_uid_calls.filter else no_new_spaces.filter)
-
-pub what_one_may_not_call_leaves_it_open : IsOpen by_member (permits no_new_spaces.filter) no_new_spaces keeper_and_neighbour (100 ∷ 101 ∷ []) (Cap 5 1)
+pub what_one_may_not_call_leaves_it_open : OpenIn no_new_spaces keeper_and_neighbour (100 ∷ 101 ∷ []) (Cap 5 1)
 unfolding first_found
 what_one_may_not_call_leaves_it_open = record {
   met = λ bounds encloses.
-      let start = held (permits no_new_spaces.filter) no_new_spaces keeper_and_neighbour (100 ∷ 101 ∷ []) bounds encloses in (
+      let start = held _ no_new_spaces keeper_and_neighbour (100 ∷ 101 ∷ []) bounds encloses in (
         Standing 0,
         refl,
         inr (
@@ -197,16 +219,16 @@ what_one_may_not_call_leaves_it_open = record {
 
 pub keeper_and_neighbour_are_plain : EachMember keeper_and_neighbour (100 ∷ 101 ∷ []) (IsPlain with_child)
 keeper_and_neighbour_are_plain =
-    each_of_two keeper neighbour with_child (100 ∷ 101 ∷ []) (IsPlain with_child)
+    each_of_two filtered neighbour with_child (100 ∷ 101 ∷ []) (IsPlain with_child)
     (record { has_none = record { permitted = refl; effective = refl; inheritable = refl; ambient = refl }; written = above_initial })
     (record { has_none = record { permitted = refl; effective = refl; inheritable = refl; ambient = refl }; written = above_initial })
 
-pub neither_makes_a_space : ExcludesSpaces (permits no_new_spaces.filter)
+pub neither_makes_a_space : ExcludesSpaces (permits (common_filter no_new_spaces keeper_and_neighbour (100 ∷ 101 ∷ [])))
 neither_makes_a_space = no_spaces _ refl refl refl
 
 pub programs_give_neither_anything : ProgramsGiveNone no_new_spaces.files keeper_and_neighbour (100 ∷ 101 ∷ [])
 programs_give_neither_anything =
-    inl (each_of_two keeper neighbour with_child (100 ∷ 101 ∷ []) (λ p. p.cred.no_new_privs ≡ true) refl refl)
+    inl (each_of_two filtered neighbour with_child (100 ∷ 101 ∷ []) (λ p. p.cred.no_new_privs ≡ true) refl refl)
 
 -- ---- a capability that is permitted, where capset is excluded: it can't be raised, and the bounds don't tell
 abbrev unraised : State
@@ -215,11 +237,11 @@ unraised = one (record (user 1000) { permitted = 0x80; no_new_privs = true })
 abbrev no_capset : World
 no_capset = record world { filter = 0x1c0200 }
 
-pub a_capability_leaves_it_open : IsOpen (λ pid. permits no_capset.filter) (permits no_capset.filter) no_capset unraised (100 ∷ []) (Uid 7)
+pub a_capability_leaves_it_open : OpenIn no_capset unraised (100 ∷ []) (Uid 7)
 unfolding first_found
 a_capability_leaves_it_open = record {
   met = λ bounds encloses.
-      let start = held (permits no_capset.filter) no_capset unraised (100 ∷ []) bounds encloses in (
+      let start = held _ no_capset unraised (100 ∷ []) bounds encloses in (
         Standing 0,
         refl,
         encloses.closed SetUid (Standing 0) refl EffectiveUids 7 (
@@ -238,7 +260,7 @@ pub its_maps_are_written : EachMember unraised (100 ∷ []) (λ p. (n : ℕ) →
 its_maps_are_written =
     each_alone _ first_spaces (100 ∷ []) (λ p. (n : ℕ) → IsTrue (is_at_or_above first_spaces n p.space) → AreWritten (space_of first_spaces n)) initial_written
 
-pub it_makes_no_space : ExcludesSpaces (permits no_capset.filter)
+pub it_makes_no_space : ExcludesSpaces (permits (common_filter no_capset unraised (100 ∷ [])))
 it_makes_no_space = no_spaces _ refl refl refl
 
 pub programs_give_it_nothing : ProgramsGiveNone no_capset.files unraised (100 ∷ [])
@@ -261,11 +283,11 @@ abbrev box_program : World
 box_program = record (world_with (record (plain_mount (codes "box")) { space = 1 } ∷ [])
     (record file { mount = 1; uid = 500; gid = 34; mode = 0o2755 } ∷ [])) { filter = 0x1c0000 }
 
-pub an_unwritten_map_leaves_it_open : IsOpen (λ pid. permits box_program.filter) (permits box_program.filter) box_program writer_and_runner (100 ∷ 101 ∷ []) (Gid 34)
+pub an_unwritten_map_leaves_it_open : OpenIn box_program writer_and_runner (100 ∷ 101 ∷ []) (Gid 34)
 unfolding first_found
 an_unwritten_map_leaves_it_open = record {
   met = λ bounds encloses.
-      let start = held (permits box_program.filter) box_program writer_and_runner (100 ∷ 101 ∷ []) bounds encloses in
+      let start = held _ box_program writer_and_runner (100 ∷ 101 ∷ []) bounds encloses in
       let mapped : tested bounds (Standing 1) MappedUids 500
       = encloses.closed Maps (Standing 1) refl MappedUids 500 (
         refl,
@@ -316,7 +338,7 @@ they_have_no_capability =
     (record { permitted = refl; effective = refl; inheritable = refl; ambient = refl })
     (record { permitted = refl; effective = refl; inheritable = refl; ambient = refl })
 
-pub they_make_no_space : ExcludesSpaces (permits box_program.filter)
+pub they_make_no_space : ExcludesSpaces (permits (common_filter box_program writer_and_runner (100 ∷ 101 ∷ [])))
 they_make_no_space = no_spaces _ refl refl refl
 
 one_row : (files : FileTable) (spaces : Spaces) (n : ℕ) → serves files spaces n 0 ≡ false → ((row : ℕ) → serves files spaces n (suc row) ≡ false)
@@ -346,11 +368,11 @@ abbrev joinable : World
 joinable = record (world_with (record (plain_mount (codes "box")) { space = 1 } ∷ [])
     (record file { mount = 1; uid = 100005; gid = 100005; mode = 0o4755 } ∷ [])) { filter = 0xc0007 }
 
-pub a_join_leaves_it_open : IsOpen (λ pid. permits joinable.filter) (permits joinable.filter) joinable outside_it (100 ∷ []) (Uid 100005)
+pub a_join_leaves_it_open : OpenIn joinable outside_it (100 ∷ []) (Uid 100005)
 unfolding first_found
 a_join_leaves_it_open = record {
   met = λ bounds encloses.
-      let start = held (permits joinable.filter) joinable outside_it (100 ∷ []) bounds encloses in
+      let start = held _ joinable outside_it (100 ∷ []) bounds encloses in
       let effective : tested bounds (Standing 0) EffectiveUids 1000
       = start (Standing 0) EffectiveUids 1000 (inl (100, _, refl, refl, refl, refl)) refl in
       let joined : (part : Part) (x : ℕ) → Brings (tested bounds (Standing 0)) part x → tested bounds (Standing 1) part x
@@ -420,11 +442,11 @@ two = with_processes (with_group ∷ without_group ∷ [])
 abbrev pub opt_x : World
 opt_x = record (world_of (record file { path = codes "/opt/x"; gid = 34; mode = 0o4010 })) { filter = 0x1c0000 }
 
-pub a_program_leaves_it_open : IsOpen (λ pid. permits opt_x.filter) (permits opt_x.filter) opt_x two (31 ∷ 32 ∷ []) (Uid 0)
+pub a_program_leaves_it_open : OpenIn opt_x two (31 ∷ 32 ∷ []) (Uid 0)
 unfolding first_found
 a_program_leaves_it_open = record {
   met = λ bounds encloses.
-      let start = held (permits opt_x.filter) opt_x two (31 ∷ 32 ∷ []) bounds encloses in (
+      let start = held _ opt_x two (31 ∷ 32 ∷ []) bounds encloses in (
         Standing 0,
         refl,
         encloses.closed ExecUid (Standing 0) refl EffectiveUids 0 (
@@ -461,7 +483,7 @@ both_are_plain =
     (record { has_none = record { permitted = refl; effective = refl; inheritable = refl; ambient = refl }; written = initial_written })
     (record { has_none = record { permitted = refl; effective = refl; inheritable = refl; ambient = refl }; written = initial_written })
 
-pub both_make_no_space : ExcludesSpaces (permits opt_x.filter)
+pub both_make_no_space : ExcludesSpaces (permits (common_filter opt_x two (31 ∷ 32 ∷ [])))
 both_make_no_space = no_spaces _ refl refl refl
 
 pub root_gains_nothing_by_them : RootGainsNone two (31 ∷ 32 ∷ [])
@@ -475,11 +497,11 @@ saved_root = process 100 (record (user 1000) { uid = record (all_four 1000) { sa
 abbrev alone : State
 alone = with_processes (saved_root ∷ [])
 
-pub a_root_id_leaves_it_open : IsOpen (λ pid. permits no_uid_calls.filter) (permits no_uid_calls.filter) no_uid_calls alone (100 ∷ []) (Cap 7 0)
+pub a_root_id_leaves_it_open : OpenIn no_uid_calls alone (100 ∷ []) (Cap 7 0)
 unfolding first_found
 a_root_id_leaves_it_open = record {
   met = λ bounds encloses.
-      let start = held (permits no_uid_calls.filter) no_uid_calls alone (100 ∷ []) bounds encloses in
+      let start = held _ no_uid_calls alone (100 ∷ []) bounds encloses in
       let effective : tested bounds (Standing 0) EffectiveUids 1000
       = start (Standing 0) EffectiveUids 1000 (inl (100, _, refl, refl, refl, refl)) refl in (
         Standing 0,
@@ -507,7 +529,7 @@ saved_root_is_plain =
     each_alone saved_root first_spaces (100 ∷ []) (IsPlain first_spaces)
     (record { has_none = record { permitted = refl; effective = refl; inheritable = refl; ambient = refl }; written = initial_written })
 
-pub saved_root_makes_no_space : ExcludesSpaces (permits no_uid_calls.filter)
+pub saved_root_makes_no_space : ExcludesSpaces (permits (common_filter no_uid_calls alone (100 ∷ [])))
 saved_root_makes_no_space = no_spaces _ refl refl refl
 
 pub no_program_serves_it : NoneServes no_uid_calls.files alone (100 ∷ [])

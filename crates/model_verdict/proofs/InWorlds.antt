@@ -7,6 +7,7 @@ use Rattle.model_cred.specs.Process.{State}
 use Rattle.model_cred.specs.Right.{Right}
 use Rattle.model_cred.specs.World.{World}
 use Rattle.model_run.specs.Later.{LaterRun}
+use Rattle.model_run.specs.Own.{common_filter}
 use Rattle.model_box.specs.Laws.{tested}
 use Rattle.model_box.specs.Meets.{Meets}
 use Rattle.model_box.specs.Row.{Part, Row, IsWithin}
@@ -21,14 +22,10 @@ use Rattle.model_plans.specs.Plan.{Plan}
 use Rattle.model_plans.specs.PlanRun.{Found, plan_run}
 use Rattle.model_verdict.proofs.Blames.{blame_is_within}
 use Rattle.model_verdict.specs.Blame.{Blame, AtStart, ByTurn, BlameIsWithin}
-use Rattle.model_verdict.specs.InWorld.{each_may, end_in, NoIsFirstRun, BlameIn, BringsRight, BlameIsBelow}
+use Rattle.model_verdict.specs.InWorld.{end_in, NoIsFirstRun, BringsRight, BlameIsBelow}
 use Rattle.model_verdict.specs.Least.{Test}
 use Rattle.model_verdict.specs.Sweep.{Turn, swept, turn_at, widened}
-use Rattle.model_verdict.specs.Verdict.{MayCallWithin}
-
--- what each member may call, they may call together
-pub may_within : (w : World) (members : List ℕ) → MayCallWithin (each_may w) (permits w.filter) members
-may_within w members pid member kind is = is
+use Rattle.model_verdict.specs.Verdict.{BlameIn}
 
 -- ---- a no
 -- what holds of all holds of the one in the middle
@@ -36,15 +33,15 @@ all_middle : (P : Plan → Type 0) (before : List Plan) (plan : Plan) (after : L
 all_middle P [] plan after all = All-head P plan after all
 all_middle P (x ∷ before) plan after all = all_middle P before plan after (All-tail P x (before ++ plan ∷ after) all)
 
-module _ (w : World) (s : State) (members : List ℕ) (right : Right) (found : Found) (first : IsFirst (each_may w) w s members right found) where
+module _ (w : World) (s : State) (members : List ℕ) (right : Right) (found : Found) (first : IsFirst (permits w.filter) w s members right found) where
   abbrev later_of : Plan → Type 0
-  later_of plan = IsLater (each_may w) w s members plan.pid (plan_run (each_may w) w s right plan)
+  later_of plan = IsLater (permits w.filter) w s members plan.pid (plan_run (permits w.filter) w s right plan)
 
   run_of_plan : later_of first.plan
   unfolding RunsAreLater
   run_of_plan =
       all_middle later_of first.before first.plan first.after
-      (subst (λ (list : List Plan). All later_of list) first.listed (runs_are_later (each_may w) w s members right))
+      (subst (λ (list : List Plan). All later_of list) first.listed (runs_are_later (permits w.filter) w s members right))
 
   run_later : LaterRun w s members found.run (end_in w s right first.plan) members
   run_later = subst (λ (es : List Event). LaterRun w s members es (end_in w s right first.plan) members) (sym first.run) run_of_plan.later
@@ -55,7 +52,7 @@ module _ (w : World) (s : State) (members : List ℕ) (right : Right) (found : F
 pub no_is_first_run : NoIsFirstRun
 unfolding NoIsFirstRun FoundIsFirst HolderIsLeast
 no_is_first_run w s members right found ascend there =
-    let first : IsFirst (each_may w) w s members right found = (found_is_first (each_may w) w s members right found).0 there in
+    let first : IsFirst (permits w.filter) w s members right found = (found_is_first (permits w.filter) w s members right found).0 there in
     record {
       first = first;
       later = run_later w s members right found first;
@@ -76,29 +73,29 @@ module _ (w : World) (s : State) (members : List ℕ) (right : Right) where
     },
   )
   brings (ByTurn turn) below (k, is, first, says) =
-      let lower : Row → Part → ℕ → Type 0 = swept (permits w.filter) w.files s members k in
+      let lower : Row → Part → ℕ → Type 0 = swept (permits (common_filter w s members)) w.files s members k in
       let down : IsWithin (tested below) lower = λ r part x held. (says r part x).0 held in
       let up : IsWithin lower (tested below) = λ r part x held. (says r part x).1 held in (
         λ met. first.before k (omega arith) (meets_more s.spaces (tested below) lower down right met),
-        subst (λ (t : Turn). Meets s.spaces (widened (permits w.filter) w.files s.spaces (tested below) t) right) (sym is)
-            (meets_more s.spaces (swept (permits w.filter) w.files s members (suc k))
-            (widened (permits w.filter) w.files s.spaces (tested below) (turn_at s.spaces k)) (wider k below up) right first.meets),
+        subst (λ (t : Turn). Meets s.spaces (widened (permits (common_filter w s members)) w.files s.spaces (tested below) t) right) (sym is)
+            (meets_more s.spaces (swept (permits (common_filter w s members)) w.files s members (suc k))
+            (widened (permits (common_filter w s members)) w.files s.spaces (tested below) (turn_at s.spaces k)) (wider k below up) right first.meets),
       )
     where
-      wider : (k : ℕ) (below : Test) → IsWithin (swept (permits w.filter) w.files s members k) (tested below)
-          → IsWithin (swept (permits w.filter) w.files s members (suc k))
-          (widened (permits w.filter) w.files s.spaces (tested below) (turn_at s.spaces k))
+      wider : (k : ℕ) (below : Test) → IsWithin (swept (permits (common_filter w s members)) w.files s members k) (tested below)
+          → IsWithin (swept (permits (common_filter w s members)) w.files s members (suc k))
+          (widened (permits (common_filter w s members)) w.files s.spaces (tested below) (turn_at s.spaces k))
       wider k below up r part x (inl held) = inl (up r part x held)
       wider k below up r part x (inr (same, added)) =
           inr (
             same,
-            adds_more (permits w.filter) w.files s.spaces (swept (permits w.filter) w.files s members k) (tested below) up
+            adds_more (permits (common_filter w s members)) w.files s.spaces (swept (permits (common_filter w s members)) w.files s members k) (tested below) up
                 (turn_at s.spaces k).rule (turn_at s.spaces k).row part x added,
           )
 
 pub blame_is_below : BlameIsBelow
 unfolding BlameIsBelow BlameIsWithin
 blame_is_below w s members right blame below fits is = record {
-  within = λ other encloses. blame_is_within (permits w.filter) w.files s members right blame below other fits is encloses;
+  within = λ other encloses. blame_is_within (permits (common_filter w s members)) w.files s members right blame below other fits is encloses;
   brings = brings w s members right blame below is;
 }

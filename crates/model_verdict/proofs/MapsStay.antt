@@ -20,9 +20,9 @@ use Rattle.model_rules.specs.Maps.{may_say, write_done, write_refused, write_sto
 use Rattle.model_rules.specs.Namespaces.{unshare, clone_user}
 use Rattle.model_rules.specs.Power.{has_over}
 use Rattle.model_rules.specs.Reply.{spaces_with, spaces_after}
-use Rattle.model_run.specs.Ruling.{Ruling, ruling, birth, birth_unless, fork_child, clone_child}
+use Rattle.model_run.specs.Ruling.{Ruling, ruling, permitted_ruling, birth, birth_unless, fork_child, clone_child}
 use Rattle.model_run.specs.Step.{Step, Run, told_child}
-use Rattle.model_laws.proofs.StepParts.{Stepped, Answers, stepped}
+use Rattle.model_laws.proofs.StepParts.{Stepped, Answers, stepped, by_filter}
 use Rattle.model_box.proofs.Writing.{choose}
 use Rattle.model_verdict.specs.Back.{TakesBack, TakeBack, RunsKeepTakingBack}
 use Rattle.model_verdict.proofs.Decided.{all_spaces, no_outside}
@@ -101,13 +101,17 @@ unless_stays : (res : Res) (s : State) (child : Process) (after : Spaces) → Al
 unless_stays (Err e) s child after all new = all
 unless_stays _ s child after all new = birth_stays s child after all new
 
-ruled_stays : (w : World) (s : State) (p : Process) (call : Call) (pid : ℕ) → All TakeBack s.spaces → All TakeBack (ruling w s p call pid).state.spaces
-ruled_stays w s p Fork pid all = birth_stays s (fork_child p pid) s.spaces all all
-ruled_stays w s p CloneUser pid all =
+permitted_stays : (w : World) (s : State) (p : Process) (call : Call) (pid : ℕ) → All TakeBack s.spaces
+    → All TakeBack (permitted_ruling w s p call pid).state.spaces
+permitted_stays w s p Fork pid all = birth_stays s (fork_child p pid) s.spaces all all
+permitted_stays w s p CloneUser pid all =
     unless_stays (clone_user s.spaces p.space p.cred) s (clone_child s.spaces p pid) (spaces_after s.spaces p.space p.cred CloneUser) all
     (after_stays s.spaces p.space p.cred CloneUser all)
-ruled_stays w s p Exit pid all = all
-ruled_stays w s p call pid all = after_stays s.spaces p.space p.cred call all
+permitted_stays w s p Exit pid all = all
+permitted_stays w s p call pid all = after_stays s.spaces p.space p.cred call all
+
+ruled_stays : (w : World) (s : State) (p : Process) (call : Call) (pid : ℕ) → All TakeBack s.spaces → All TakeBack (ruling w s p call pid).state.spaces
+ruled_stays w s p call pid all = by_filter (λ r. All TakeBack r.state.spaces) w s p call pid all (permitted_stays w s p call pid all)
 
 answers_stay : (w : World) (s : State) (e : Event) (later : State) (p : Process) → All TakeBack s.spaces → Answers w s p e.call e.res later
     → All TakeBack later.spaces

@@ -3,6 +3,7 @@ use Rattle.std.proofs.Common.{◌≡◌, ℕ, suc, true, List, [], None, Some, s
 use Rattle.std.specs.Prelude.{All}
 use Rattle.std.specs.List.{flat_map}
 use Rattle.std.proofs.lemmas.List.Elements.{All-cons, All-weaker}
+use Rattle.cm_filter.specs.Filters.{permits}
 use Rattle.model_cred.specs.Process.{State, process_at}
 use Rattle.model_cred.specs.Right.{Right}
 use Rattle.model_cred.specs.World.{World}
@@ -13,7 +14,6 @@ use Rattle.model_box.specs.Start.{StartHas}
 use Rattle.model_box.proofs.Starts.{covers_start, holds_start}
 use Rattle.model_box.proofs.Stated.{closed_for_fewer}
 use Rattle.model_plans.specs.Firsts.{NoneHolds, NothingFound}
-use Rattle.model_plans.specs.Move.{MayCall}
 use Rattle.model_plans.specs.Plan.{Plan, plans, plans_for}
 use Rattle.model_plans.specs.PlanRun.{plan_run, first_found}
 use Rattle.model_plans.proofs.Finds.{nothing_found}
@@ -23,7 +23,7 @@ use Rattle.model_verdict.specs.More.{AreAmong, MoreFind, MoreNeedMore}
 use Rattle.model_verdict.proofs.SettledPlans.{all_parts, is_found}
 
 -- ---- plans
-module _ (may_call : MayCall) (w : World) (s : State) (members more : List ℕ) (right : Right) (among : AreAmong members more) where
+module _ (w : World) (s : State) (members more : List ℕ) (right : Right) (among : AreAmong members more) where
   abbrev own : ℕ → List Plan
   own pid = plans_for w.files s.spaces right pid (process_at s.processes pid)
 
@@ -37,22 +37,22 @@ module _ (may_call : MayCall) (w : World) (s : State) (members more : List ℕ) 
       (λ pid member. all_member (λ n. All P (own n)) more pid (all_parts P own more rest) (among pid member)) members (all_members members)))
 
   -- where nothing is found with more members, nothing is with these
-  nothing_less : first_found may_call w s more right ≡ None → first_found may_call w s members right ≡ None
+  nothing_less : first_found (permits w.filter) w s more right ≡ None → first_found (permits w.filter) w s members right ≡ None
   unfolding NothingFound
   nothing_less nothing =
-      (nothing_found may_call w s members right).1
-      (fewer_plans (λ plan. NoneHolds (plan_run may_call w s right plan).state members right)
-      (All-weaker (λ plan. NoneHolds (plan_run may_call w s right plan).state more right)
-      (λ plan. NoneHolds (plan_run may_call w s right plan).state members right)
+      (nothing_found (permits w.filter) w s members right).1
+      (fewer_plans (λ plan. NoneHolds (plan_run (permits w.filter) w s right plan).state members right)
+      (All-weaker (λ plan. NoneHolds (plan_run (permits w.filter) w s right plan).state more right)
+      (λ plan. NoneHolds (plan_run (permits w.filter) w s right plan).state members right)
       (λ plan none pid member. none pid (among pid member)) (plans w s more right)
-      ((nothing_found may_call w s more right).0 nothing)))
+      ((nothing_found (permits w.filter) w s more right).0 nothing)))
 
 pub more_find : MoreFind
 unfolding MoreFind
-more_find may_call w s members more right among (found, is) =
-    is_found may_call w s more right
+more_find w s members more right among (found, is) =
+    is_found (permits w.filter) w s more right
     (λ nothing.
-    let none : first_found may_call w s members right ≡ None = nothing_less may_call w s members more right among nothing in
+    let none : first_found (permits w.filter) w s members right ≡ None = nothing_less w s members more right among nothing in
     let no : Some found ≡ None = sym is ∙ none in
     absurd (cc))
 

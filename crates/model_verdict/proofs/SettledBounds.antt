@@ -141,7 +141,7 @@ no_more : (b : Bool) → b ≡ true → not b ≡ true → ⊥
 no_more true is other = false≢true other
 no_more false is other = false≢true is
 
-module _ (permitted : CallKind → Bool) (files : FileTable) (s : State) (members : List ℕ) (settled : Settled (λ n. permitted) permitted files s members)
+module _ (permitted : CallKind → Bool) (files : FileTable) (s : State) (members : List ℕ) (settled : Settled permitted files s members)
     (tree : IsTree s.spaces) where
   abbrev Reached : Row → Part → ℕ → Type 0
   Reached row part x = IsTrue (reached permitted s members row part x)

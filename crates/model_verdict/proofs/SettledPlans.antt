@@ -7,6 +7,7 @@ use Rattle.std.proofs.lemmas.Bool.{cond-true, eq-eqb, false≢true}
 use Rattle.std.proofs.lemmas.List.Elements.{All-head, All-tail, All-cons, All-nil}
 use Rattle.cm_base.specs.CapSet.{none}
 use Rattle.cm_base.specs.declared.errno.Errno.TheVariants.{EPERM}
+use Rattle.cm_filter.specs.declared.kind.CallKind.{CallKind}
 use Rattle.cm_filter.specs.declared.kind.CallKind.TheVariants as kind
 use Rattle.model_cred.specs.Call.{Call, CapSet, kind_of}
 use Rattle.model_cred.specs.Process.{Process, State, process_at}
@@ -18,7 +19,7 @@ use Rattle.model_run.specs.Holds.{process_holds}
 use Rattle.model_run.specs.Later.{is_member}
 use Rattle.model_plans.specs.Changes.{FirstMovesStay}
 use Rattle.model_plans.specs.Firsts.{NoneHolds, NoneHoldsAfter, NoHolder, NothingFound, MoverDecides}
-use Rattle.model_plans.specs.Move.{Seat, seat_of, MayCall, Setting, Move, Raise, BecomeSought, BecomeGroup}
+use Rattle.model_plans.specs.Move.{Seat, seat_of, Setting, Move, Raise, BecomeSought, BecomeGroup}
 use Rattle.model_plans.specs.Plan.{Choice, Plan, plans, plans_for, plan_of, first_choices, middle_choices, last_choices, moves_of}
 use Rattle.model_plans.specs.PlanRun.{plan_run, moves_made, setting_in, holder, Found, first_found}
 use Rattle.model_plans.specs.Walk.{after, after_moves, seat_after, seat_holds}
@@ -116,7 +117,7 @@ at_last P _ _ (of_uid id) all = all 2 [] (omega arith)
 at_last P _ _ (of_cap cap n) all = all 2 [] (omega arith)
 at_last P _ _ (of_gid id) all = all 3 [] (omega arith)
 
-module _ (permitted : MayCall) (w : World) (s : State) (members : List ℕ) (right : Right) where
+module _ (permitted : CallKind → Bool) (w : World) (s : State) (members : List ℕ) (right : Right) where
   -- what holds of each plan of the list holds of that of a member with one last move
   listed_alone : (P : Plan → Type 0) (pid : ℕ) (p : Process) (move : Move) → is_member members pid ≡ true → process_at s.processes pid ≡ Some p
       → IsLast right move → All P (plans w s members right) → P (record { pid = pid; moves = last_alone move })
@@ -144,7 +145,7 @@ module _ (permitted : MayCall) (w : World) (s : State) (members : List ℕ) (rig
 
   -- who holds it after one last move is found
   found_after : (pid : ℕ) (p : Process) (move : Move) → is_member members pid ≡ true → process_at s.processes pid ≡ Some p → IsLast right move
-      → seat_holds (setting_in permitted w s right pid) (after_moves (setting_in permitted w s right pid) (seat_of p) (last_alone move)) ≡ true
+      → seat_holds (setting_in permitted w s right p) (after_moves (setting_in permitted w s right p) (seat_of p) (last_alone move)) ≡ true
       → first_found permitted w s members right ≡ None → ⊥
   unfolding NothingFound NoHolder MoverDecides
   found_after pid p move member at last holds nothing =
@@ -172,6 +173,6 @@ module _ (permitted : MayCall) (w : World) (s : State) (members : List ℕ) (rig
   holds_now pid member holds = is_found (found_now pid member holds)
 
   pub holds_after : (pid : ℕ) (p : Process) (move : Move) → is_member members pid ≡ true → process_at s.processes pid ≡ Some p → IsLast right move
-      → seat_holds (setting_in permitted w s right pid) (after_moves (setting_in permitted w s right pid) (seat_of p) (last_alone move)) ≡ true
+      → seat_holds (setting_in permitted w s right p) (after_moves (setting_in permitted w s right p) (seat_of p) (last_alone move)) ≡ true
       → (found : Found) × (first_found permitted w s members right ≡ Some found)
   holds_after pid p move member at last holds = is_found (found_after pid p move member at last holds)

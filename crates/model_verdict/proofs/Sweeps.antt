@@ -98,7 +98,7 @@ module _ (permitted : CallKind → Bool) (files : FileTable) (s : State) (member
         subst (λ (j : ℕ). swept permitted files s members j row part x) same held
   ]
 
-  pub stays_within : (other : Row → Part → ℕ → Type 0) → StateFits s → Closed permitted files s.spaces other → Covers s s members other
+  pub stays_within : (other : Row → Part → ℕ → Type 0) → StateFits s → Closed permitted files s.spaces other → Covers s members s members other
       → (k : ℕ) → IsWithin (swept permitted files s members k) other
   stays_within other fits closed covers zero row part x held =
       holds_start s members other covers row (start_stands s members fits row part x held) part x held

@@ -9,9 +9,8 @@ use Rattle.model_run.specs.Later.{is_member}
 use Rattle.model_box.specs.Covers.{StateFits}
 use Rattle.model_box.specs.Row.{IsWithin}
 use Rattle.model_box.specs.Laws.{tested, PermitsWithin}
-use Rattle.model_plans.specs.Move.{MayCall}
 use Rattle.model_verdict.specs.Least.{Test, IsLeast}
-use Rattle.model_verdict.specs.Decides.{IsFound}
+use Rattle.model_verdict.specs.Decides.{FoundIn}
 
 -- each of the one list is in the other
 abbrev pub AreAmong : List ℕ → List ℕ → Type 0
@@ -19,8 +18,8 @@ AreAmong members more = (pid : ℕ) → IsTrue (is_member members pid) → IsTru
 
 -- What plans find is found with more members too: no `no` is lost.
 unfoldable pub MoreFind : Type 0
-MoreFind = (own : MayCall) (w : World) (s : State) (members more : List ℕ) (right : Right)
-    → AreAmong members more → IsFound own w s members right → IsFound own w s more right
+MoreFind = (w : World) (s : State) (members more : List ℕ) (right : Right)
+    → AreAmong members more → FoundIn w s members right → FoundIn w s more right
 
 -- Bounds that enclose more members, which may call no less together, enclose these: so the least bounds of more members
 -- are no smaller.

@@ -1,6 +1,7 @@
 -- Settled families: those for which the list of plans reaches all that the least bounds allow.
 use Rattle.std.specs.Prelude.{◌≡◌, ◌⊎◌, ℕ, ◌&&◌, ◌||◌, Bool, true, false, IsTrue, is_some, List, Some}
 use Rattle.cm_base.specs.CapSet.{none}
+use Rattle.cm_filter.specs.Filters.{permits}
 use Rattle.cm_filter.specs.declared.kind.CallKind.{CallKind}
 use Rattle.cm_filter.specs.declared.kind.CallKind.TheVariants as kind
 use Rattle.model_cred.specs.Credential.{Credential}
@@ -10,9 +11,10 @@ use Rattle.model_cred.specs.Space.{Space, Spaces, is_at_or_above, space_of}
 use Rattle.model_rules.specs.FileView.{view, has_bit, allows_set_id, takes_attribute}
 use Rattle.model_rules.specs.Securebits.{has_flag, noroot}
 use Rattle.model_rules.specs.Zero.{has_zero}
+use Rattle.model_cred.specs.World.{World}
 use Rattle.model_run.specs.Later.{is_member}
+use Rattle.model_run.specs.Own.{common_filter}
 use Rattle.model_box.specs.Files.{is_program}
-use Rattle.model_plans.specs.Move.{MayCall}
 
 -- so it is of each member that lives
 abbrev pub EachMember : State → List ℕ → (Process → Type 0) → Type 0
@@ -68,16 +70,18 @@ abbrev pub ProgramsGiveNone : FileTable → State → List ℕ → Type 0
 ProgramsGiveNone files s members =
     EachMember s members (λ p. p.cred.no_new_privs ≡ true) ⊎ (NoneServes files s members × RootGainsNone s members)
 
--- All members may call the same: each of them what they may call together.
-abbrev pub MayCallTheSame : MayCall → (CallKind → Bool) → List ℕ → Type 0
-MayCallTheSame own permitted members =
-    (pid : ℕ) → IsTrue (is_member members pid) → (kind : CallKind) → own pid kind ≡ permitted kind
+-- All members have equal filters, as numbers; those below 2^27, all that texts and calls can make, are then equal sets.
+abbrev pub EqualFilters : State → List ℕ → Type 0
+EqualFilters s members = EachMember s members (λ p. EachMember s members (λ q. p.filter ≡ q.filter))
 
--- A settled family: its members are plain; it makes and joins no space; programs give it nothing; all members may call
--- the same. `own` says what each member may call, `permitted` what they may call together.
-pub record Settled (own : MayCall) (permitted : CallKind → Bool) (files : FileTable) (s : State) (members : List ℕ)
-    : Type 0 where
+-- A settled family, of those calls that are permitted: its members are plain; it makes and joins no space; programs
+-- give it nothing; and all members have equal filters.
+pub record Settled (permitted : CallKind → Bool) (files : FileTable) (s : State) (members : List ℕ) : Type 0 where
   pub plain : EachMember s members (IsPlain s.spaces)
   pub excluded : ExcludesSpaces permitted
   pub programs : ProgramsGiveNone files s members
-  pub same : MayCallTheSame own permitted members
+  pub same : EqualFilters s members
+
+-- The family is settled in a world: of the calls that its common filter permits.
+abbrev pub SettledIn : World → State → List ℕ → Type 0
+SettledIn w s members = Settled (permits (common_filter w s members)) w.files s members

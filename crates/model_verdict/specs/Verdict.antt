@@ -1,24 +1,24 @@
 -- The verdict on a right of a family: a plan of the list ends holding it, or the least bounds exclude it, or neither.
-use Rattle.std.specs.Prelude.{◌≡◌, ◌↔◌, ℕ, Bool, false, IsTrue, List, Some, None}
-use Rattle.cm_filter.specs.declared.kind.CallKind.{CallKind}
+use Rattle.std.specs.Prelude.{◌≡◌, ◌↔◌, ℕ, false, IsTrue, List, Some, None}
+use Rattle.cm_filter.specs.Filters.{permits}
 use Rattle.model_cred.specs.Call.{Event}
 use Rattle.model_cred.specs.Process.{State, KeepsState}
 use Rattle.model_cred.specs.Right.{Right}
 use Rattle.model_cred.specs.World.{World}
 use Rattle.model_run.specs.Holds.{process_holds}
-use Rattle.model_run.specs.Later.{Later, is_member}
+use Rattle.model_run.specs.Later.{LaterRun, is_member}
+use Rattle.model_run.specs.Own.{common_filter}
 use Rattle.model_box.specs.Encloses.{Encloses}
 use Rattle.model_box.specs.Files.{FilesFit}
-use Rattle.model_box.specs.Laws.{tested, PermitsWithin}
+use Rattle.model_box.specs.Laws.{tested}
 use Rattle.model_box.specs.Meets.{Meets, IsOverStanding}
 use Rattle.model_box.specs.Row.{Part, Row}
 use Rattle.model_plans.specs.Firsts.{EndsHolding}
-use Rattle.model_plans.specs.Move.{MayCall}
 use Rattle.model_plans.specs.PlanRun.{Found, first_found}
-use Rattle.model_verdict.specs.Least.{Test, IsLeast, AllMeet}
+use Rattle.model_verdict.specs.Least.{Test}
 use Rattle.model_verdict.specs.Blame.{Blame, IsBlame}
-use Rattle.model_verdict.specs.Settled.{Settled}
-use Rattle.model_verdict.specs.Decides.{IsOpen}
+use Rattle.model_verdict.specs.Settled.{SettledIn}
+use Rattle.model_verdict.specs.Decides.{AllMeetIn, LeastIn, OpenIn}
 
 -- No, with the run and the holder that are found; yes, with the least bounds; or undecided, with what is blamed and the
 -- bounds just before.
@@ -27,26 +27,30 @@ pub data Verdict : Type 0 where
   Yes : Test → Verdict
   Undecided : Blame → Test → Verdict
 
+-- what is blamed, with the bounds just before
+abbrev pub BlameIn : World → State → List ℕ → Right → Blame → Test → Type 0
+BlameIn w s members right blame below =
+    IsBlame (permits (common_filter w s members)) w.files s members right blame below
+
 -- Which verdict it is: no where a plan of the list ends with a holder, with the first such plan. Else yes where the
--- least closed covering bounds don't meet the right. Else undecided. Plans go by what each member may call (`own`),
--- bounds by what they may call together (`permitted`).
-abbrev pub IsVerdict : MayCall → (CallKind → Bool) → World → State → List ℕ → Right → Verdict → Type 0
-IsVerdict own permitted w s members right (No found) = first_found own w s members right ≡ Some found
-IsVerdict own permitted w s members right (Yes bounds) =
-    (first_found own w s members right ≡ None)
-    × IsLeast permitted w.files s members bounds
+-- least closed covering bounds don't meet the right. Else undecided. Each move of a plan goes by the world's filter and
+-- the member's own, the bounds by the filter that is common to the world and all members.
+abbrev pub VerdictIn : World → State → List ℕ → Right → Verdict → Type 0
+VerdictIn w s members right (No found) = first_found (permits w.filter) w s members right ≡ Some found
+VerdictIn w s members right (Yes bounds) =
+    (first_found (permits w.filter) w s members right ≡ None)
+    × LeastIn w s members bounds
     × (Meets s.spaces (tested bounds) right → ⊥)
-IsVerdict own permitted w s members right (Undecided blame below) =
-    (first_found own w s members right ≡ None)
-    × AllMeet permitted w.files s members right
-    × IsBlame permitted w.files s members right blame below
+VerdictIn w s members right (Undecided blame below) =
+    (first_found (permits w.filter) w s members right ≡ None)
+    × AllMeetIn w s members right
+    × BlameIn w s members right blame below
 
 -- There is a verdict on each right, in each state.
 unfoldable pub VerdictIsThere : Type 0
 VerdictIsThere =
-    (own : MayCall) (permitted : CallKind → Bool) (w : World) (s : State) (members : List ℕ) (right : Right)
-    → KeepsState s
-    → (verdict : Verdict) × IsVerdict own permitted w s members right verdict
+    (w : World) (s : State) (members : List ℕ) (right : Right) → KeepsState s
+    → (verdict : Verdict) × VerdictIn w s members right verdict
 
 -- the two tests say the same
 abbrev pub SaySame : Test → Test → Type 0
@@ -62,60 +66,47 @@ AreOne _ _ = ⊥
 -- And there is one alone.
 unfoldable pub OneVerdict : Type 0
 OneVerdict =
-    (own : MayCall) (permitted : CallKind → Bool) (w : World) (s : State) (members : List ℕ) (right : Right)
-    (one two : Verdict)
-    → IsVerdict own permitted w s members right one → IsVerdict own permitted w s members right two → AreOne one two
+    (w : World) (s : State) (members : List ℕ) (right : Right) (one two : Verdict)
+    → VerdictIn w s members right one → VerdictIn w s members right two → AreOne one two
 
 -- No: there is a later run, after which a member holds the right.
 unfoldable pub NoIsShown : Type 0
 NoIsShown =
-    (own : MayCall) (permitted : CallKind → Bool) (w : World) (s : State) (members : List ℕ) (right : Right)
-    (found : Found)
-    → IsVerdict own permitted w s members right (No found) → EndsHolding own w s members right found
+    (w : World) (s : State) (members : List ℕ) (right : Right) (found : Found)
+    → VerdictIn w s members right (No found) → EndsHolding (permits w.filter) w s members right found
 
 -- Yes: after no later run, of any length, does a member hold the right.
 unfoldable pub YesIsKept : Type 0
 YesIsKept =
-    (own : MayCall) (permitted : CallKind → Bool) (w : World) (s : State) (members : List ℕ) (right : Right)
-    (bounds : Test)
+    (w : World) (s : State) (members : List ℕ) (right : Right) (bounds : Test)
     → KeepsState s → FilesFit w.files s.spaces → IsOverStanding s.spaces right
-    → IsVerdict own permitted w s members right (Yes bounds)
-    → (events : List Event) (later : State) (members_then : List ℕ)
-    → Later permitted w s members events later members_then
+    → VerdictIn w s members right (Yes bounds)
+    → (events : List Event) (later : State) (members_then : List ℕ) → LaterRun w s members events later members_then
     → (pid : ℕ) → IsTrue (is_member members_then pid) → process_holds later pid right ≡ false
 
 -- bounds that are closed, cover the members, and don't meet the right
-pub record Excluding (permitted : CallKind → Bool) (w : World) (s : State) (members : List ℕ) (right : Right)
-    : Type 0 where
+pub record ExcludedIn (w : World) (s : State) (members : List ℕ) (right : Right) : Type 0 where
   pub bounds : Test
-  pub encloses : Encloses permitted w.files s members (tested bounds)
+  pub encloses : Encloses (permits (common_filter w s members)) w.files s members (tested bounds)
   pub apart : Meets s.spaces (tested bounds) right → ⊥
-
--- what each member may call, they may call together
-abbrev pub MayCallWithin : MayCall → (CallKind → Bool) → List ℕ → Type 0
-MayCallWithin own permitted members =
-    (pid : ℕ) → IsTrue (is_member members pid) → PermitsWithin (own pid) permitted
 
 -- It is yes exactly where some closed covering bounds don't meet the right.
 unfoldable pub YesExactly : Type 0
 YesExactly =
-    (own : MayCall) (permitted : CallKind → Bool) (w : World) (s : State) (members : List ℕ) (right : Right)
-    → MayCallWithin own permitted members
+    (w : World) (s : State) (members : List ℕ) (right : Right)
     → KeepsState s → FilesFit w.files s.spaces → IsOverStanding s.spaces right
-    → ((bounds : Test) × IsVerdict own permitted w s members right (Yes bounds)) ↔ Excluding permitted w s members right
+    → ((bounds : Test) × VerdictIn w s members right (Yes bounds)) ↔ ExcludedIn w s members right
 
 -- It is undecided exactly where the verdict is open: all closed covering bounds meet the right, and no plan of the list
 -- ends holding it.
 unfoldable pub UndecidedExactly : Type 0
 UndecidedExactly =
-    (own : MayCall) (permitted : CallKind → Bool) (w : World) (s : State) (members : List ℕ) (right : Right)
-    → KeepsState s
-    → ((blame : Blame) × (below : Test) × IsVerdict own permitted w s members right (Undecided blame below))
-    ↔ IsOpen own permitted w s members right
+    (w : World) (s : State) (members : List ℕ) (right : Right) → KeepsState s
+    → ((blame : Blame) × (below : Test) × VerdictIn w s members right (Undecided blame below))
+    ↔ OpenIn w s members right
 
 -- Undecided: the family isn't settled.
 unfoldable pub UndecidedIsUnsettled : Type 0
 UndecidedIsUnsettled =
-    (own : MayCall) (permitted : CallKind → Bool) (w : World) (s : State) (members : List ℕ) (right : Right)
-    (blame : Blame) (below : Test) → KeepsState s
-    → IsVerdict own permitted w s members right (Undecided blame below) → Settled own permitted w.files s members → ⊥
+    (w : World) (s : State) (members : List ℕ) (right : Right) (blame : Blame) (below : Test) → KeepsState s
+    → VerdictIn w s members right (Undecided blame below) → SettledIn w s members → ⊥
