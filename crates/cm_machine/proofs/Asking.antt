@@ -17,6 +17,7 @@ use Rattle.cm_machine.proofs.Changing.{get_put, put_back, same_put, same_there, 
 use Rattle.cm_machine.proofs.Groups.{fs_fixed, gids_keep, uids_keep}
 use Rattle.cm_machine.specs.Asking.{IsAsked, CanKeep, pid_number, change_by, groups_change, birth_change, inner_birth_change, where_done}
 use Rattle.cm_machine.specs.Asking.{cred_after, kept, makes_new, undone, undone_cred, born_inside, without_groups}
+use Rattle.cm_filter.specs.Filters.{Filter}
 use Rattle.cm_machine.specs.Outcomes.{takes_memory}
 use Rattle.cm_machine.specs.declared.change.Change.{Change}
 use Rattle.cm_machine.specs.declared.change.Change.TheVariants as change
@@ -31,7 +32,7 @@ use Rattle.cm_state.specs.Places.{pid_at}
 use Rattle.cm_state.specs.Call.{call_of}
 use Rattle.cm_state.specs.declared.call.Call.{Call}
 use Rattle.cm_state.specs.declared.call.Call.TheVariants.{SetUid, SetReUid, SetResUid, SetFsUid, SetGid, SetReGid, SetResGid, SetGroups, Fork, Exit}
-use Rattle.cm_state.specs.declared.call.Call.TheVariants.{CloneUser, Unshare, SetNs, WriteUidMap, WriteGidMap, WriteSetgroups, Exec}
+use Rattle.cm_state.specs.declared.call.Call.TheVariants.{CloneUser, Unshare, SetNs, WriteUidMap, WriteGidMap, WriteSetgroups, Exec, Install}
 use Rattle.model_cred.specs.Call as model
 use Rattle.model_cred.specs.Credential.{Credential}
 use Rattle.model_cred.specs.Files.{FileTable}
@@ -43,13 +44,14 @@ use Rattle.model_rules.proofs.Spaces.{stands_there}
 use Rattle.model_rules.specs.Answer.{Answer, done, refused}
 use Rattle.model_rules.specs.Caps.{cap_sys_admin}
 use Rattle.model_rules.specs.Exec.{execve, may_exec, own_sets, run_file, would_lack, cred_after as exec_cred}
+use Rattle.model_rules.specs.Install.{install, installed, may_install}
 use Rattle.model_rules.specs.Maps.{Written, UidMap, GidMap, may_say, write_done, write_refused, write_setgroups}
 use Rattle.model_rules.specs.Namespaces.{as_newcomer, clone_user, deepest, is_mapped_in, join, unshare}
 use Rattle.model_rules.specs.Power.{has_over}
 use Rattle.model_rules.specs.Reply.{place_after, spaces_with}
 use Rattle.model_rules.specs.SetGroups.{all_down, most_groups, setgroups, with_groups}
 use Rattle.model_rules.specs.SetId.{has_setgid}
-use Rattle.model_run.specs.Ruling.{Ruling, ruling, birth_unless, clone_child, fork_child, spaces_left, state_without, with_cred}
+use Rattle.model_run.specs.Ruling.{Ruling, permitted_ruling, birth_unless, clone_child, fork_child, spaces_left, state_without, with_cred}
 use Rattle.model_run.specs.Step.{names_no_space}
 
 -- a birth that is possible or not
@@ -107,7 +109,7 @@ exec_groups files spaces at c name =
 
 -- the caller's credential is as before
 restored : (w : World) (s : State) (p : Process) (call : Call) (n : ℕ)
-    → undone_cred (change_by s.spaces (call_of call) (ruling w s p (call_of call) n).res p.cred) (without_groups p.cred)
+    → undone_cred (change_by s.spaces (call_of call) (permitted_ruling w s p (call_of call) n).res p.cred) (without_groups p.cred)
     (cred_after w s.spaces p (call_of call)) ≡ p.cred
 restored w s p (SetUid id) n = regrouped p.cred _ (uids_keep (space_of s.spaces p.space) p.cred _)
 restored w s p (SetReUid r e) n = regrouped p.cred _ (uids_keep (space_of s.spaces p.space) p.cred _)
@@ -126,6 +128,7 @@ restored w s p (WriteGidMap m given) n = done_still _ (change.Map file.GidMap m 
 restored w s p (WriteSetgroups m deny) n = done_still _ (change.Word m deny) _ p.cred refl
 restored w s p (Exec name) n = regrouped p.cred _ (exec_groups w.files s.spaces p.space p.cred name)
 restored w s p Exit n = refl
+restored w s p (Install more) n = done_still _ (change.Install more) _ p.cred refl
 restored w s p call n = regrouped p.cred _ (grind arith)
 
 -- ---- what is kept
@@ -207,27 +210,36 @@ module _ (s : State) (p : Process) (same : with_cred s p p.cred ≡ s) where
       P : Written → Type 0
       P w = kept (where_done w.res (change.Word m deny)) p s ≡ left w.spaces p.space p.cred
 
+  -- an install
+  install_kept : (more : Filter) → kept (where_done (install p.cred).res (change.Install more)) p s
+      ≡ with_cred s (record p { filter = installed (install p.cred).res p.filter more }) (install p.cred).cred
+  install_kept more = cond_both (may_install p.cred) (done p.cred) (refused EACCES p.cred) P (λ _. refl) (λ _. sym same) where
+    P : Answer → Type 0
+    P a = kept (where_done a.res (change.Install more)) p s ≡ with_cred s (record p { filter = installed a.res p.filter more }) a.cred
+
 -- the state is the one that the rules give
 kept_is : (w : World) (s : State) (p : Process) (call : Call) (n : ℕ) → with_cred s p p.cred ≡ s
-    → kept (change_by s.spaces (call_of call) (ruling w s p (call_of call) n).res p.cred) (record p { cred = cred_after w s.spaces p (call_of call) })
+    → kept (change_by s.spaces (call_of call) (permitted_ruling w s p (call_of call) n).res p.cred) (record p { cred = cred_after w s.spaces p (call_of call) })
     (with_cred s p (cred_after w s.spaces p (call_of call)))
-    ≡ (ruling w s p (call_of call) n).state
+    ≡ (permitted_ruling w s p (call_of call) n).state
 kept_is w s p (SetGroups ids) n same = grouped_kept p.cred.groups (setgroups (space_of s.spaces p.space) p.cred ids).res _ _
 kept_is w s p Fork n same =
-    ap (kept (birth_change (ruling w s p model.Fork n).res) p) same
+    ap (kept (birth_change (permitted_ruling w s p model.Fork n).res) p) same
     ∙ born_kept s (record s { processes = insert_process (fork_child p n) s.processes }) p n (is_pid n) refl
-kept_is w s p CloneUser n same = ap (kept (inner_birth_change (ruling w s p model.CloneUser n).res) p) same ∙ inner_kept s p same n
-kept_is w s p Unshare n same = ap (kept (where_done (ruling w s p model.Unshare n).res change.Space) p) same ∙ entered_kept s p same
-kept_is w s p (SetNs m) n same = ap (kept (where_done (ruling w s p (model.SetNs m.0) n).res (change.Join m)) p) same ∙ joined_kept s p same m
+kept_is w s p CloneUser n same = ap (kept (inner_birth_change (permitted_ruling w s p model.CloneUser n).res) p) same ∙ inner_kept s p same n
+kept_is w s p Unshare n same = ap (kept (where_done (permitted_ruling w s p model.Unshare n).res change.Space) p) same ∙ entered_kept s p same
+kept_is w s p (SetNs m) n same = ap (kept (where_done (permitted_ruling w s p (model.SetNs m.0) n).res (change.Join m)) p) same ∙ joined_kept s p same m
 kept_is w s p (WriteUidMap m given) n same =
-    ap (kept (where_done (ruling w s p (model.WriteUidMap m.0 given) n).res (change.Map file.UidMap m (stored_list UidMap s.spaces m.0 given))) p) same
+    ap (kept (where_done (permitted_ruling w s p (model.WriteUidMap m.0 given) n).res (change.Map file.UidMap m (stored_list UidMap s.spaces m.0 given))) p) same
     ∙ map_kept s p same file.UidMap m given _ _ (written UidMap s.spaces p.space p.cred m.0 given)
 kept_is w s p (WriteGidMap m given) n same =
-    ap (kept (where_done (ruling w s p (model.WriteGidMap m.0 given) n).res (change.Map file.GidMap m (stored_list GidMap s.spaces m.0 given))) p) same
+    ap (kept (where_done (permitted_ruling w s p (model.WriteGidMap m.0 given) n).res (change.Map file.GidMap m (stored_list GidMap s.spaces m.0 given))) p) same
     ∙ map_kept s p same file.GidMap m given _ _ (written GidMap s.spaces p.space p.cred m.0 given)
 kept_is w s p (WriteSetgroups m deny) n same =
-    ap (kept (where_done (ruling w s p (model.WriteSetgroups m.0 deny) n).res (change.Word m deny)) p) same ∙ word_kept s p same m deny
+    ap (kept (where_done (permitted_ruling w s p (model.WriteSetgroups m.0 deny) n).res (change.Word m deny)) p) same ∙ word_kept s p same m deny
 kept_is w s p Exit n same = ap (λ (t : State). state_without t p) same
+kept_is w s p (Install more) n same =
+    ap (kept (where_done (permitted_ruling w s p (model.Install more) n).res (change.Install more)) p) same ∙ install_kept s p same more
 kept_is w s p call n same = refl
 
 -- ---- the process at its place
@@ -274,7 +286,7 @@ done_can _ to_make t can = tt
 
 can_is : (w : World) (s : State) (p : Process) (call : Call) (n : ℕ) → with_cred s p p.cred ≡ s → (is_pid n ≡ true → is_alive s.processes n ≡ false)
     → names_no_space s.spaces (call_of call) ≡ false → length s.spaces < greatest_number
-    → CanKeep (change_by s.spaces (call_of call) (ruling w s p (call_of call) n).res p.cred) (with_cred s p (cred_after w s.spaces p (call_of call)))
+    → CanKeep (change_by s.spaces (call_of call) (permitted_ruling w s p (call_of call) n).res p.cred) (with_cred s p (cred_after w s.spaces p (call_of call)))
 can_is w s p (SetGroups ids) n same free stand room = grouped_can p.cred.groups (setgroups (space_of s.spaces p.space) p.cred ids).res _
 can_is w s p Fork n same free stand room =
     born_can n s (with_cred s p p.cred) (record s { processes = insert_process (fork_child p n) s.processes }) (is_pid n)
@@ -289,6 +301,7 @@ can_is w s p (WriteUidMap m given) n same free stand room =
 can_is w s p (WriteGidMap m given) n same free stand room =
     done_can _ (change.Map file.GidMap m (stored_list GidMap s.spaces m.0 given)) (with_cred s p p.cred) (stands_there s.spaces m.0 stand)
 can_is w s p (WriteSetgroups m deny) n same free stand room = done_can _ (change.Word m deny) (with_cred s p p.cred) (stands_there s.spaces m.0 stand)
+can_is w s p (Install more) n same free stand room = done_can _ (change.Install more) (with_cred s p p.cred) tt
 can_is w s p call n same free stand room = tt
 
 free_number : (processes : List Process) (child : Option ℕ) → IfSome child (λ pid. is_alive processes pid ≡ false)
@@ -304,7 +317,7 @@ module _ (w : World) (s : State) (call : Call) (child : Option ℕ) (at : ℕ) (
   k = call_of call
 
   abbrev given : Ruling
-  given = ruling w s old k (pid_number child)
+  given = permitted_ruling w s old k (pid_number child)
 
   abbrev leaves : Credential
   leaves = cred_after w s.spaces old k
@@ -358,10 +371,10 @@ module _ (w : World) (s : State) (call : Call) (child : Option ℕ) (at : ℕ) (
       → OrNoMemory r (λ res. changed ≡ change_by s.spaces k res old.cred)
       → OrNoMemory r (λ _. new.cred ≡ leaves)
       → OrNoMemory r (λ res. (p : Process) → slice_get s.processes at ≡ Some p
-      → IsAsked (record { res = res; change = changed }) (without_groups p.cred) at after s (ruling w s p k (pid_number child)))
+      → IsAsked (record { res = res; change = changed }) (without_groups p.cred) at after s (permitted_ruling w s p k (pid_number child)))
   asked_is (Ok res) changed answers change cred = λ p there.
       let asked : Asked = record { res = res; change = changed } in
-      subst (λ (q : Process). IsAsked asked (without_groups q.cred) at after s (ruling w s q k (pid_number child)))
+      subst (λ (q : Process). IsAsked asked (without_groups q.cred) at after s (permitted_ruling w s q k (pid_number child)))
       (same_there s.processes at old p h is there)
       (asked_old asked (record { answers = answers; change = change; cred = cred }))
   asked_is (Err why) changed answers change cred = tt
@@ -396,6 +409,7 @@ made_takes spaces (SetNs m) r c is = where_made _ r (change.Join m) (λ new. abs
 made_takes spaces (WriteUidMap m given) r c is = refl
 made_takes spaces (WriteGidMap m given) r c is = refl
 made_takes spaces (WriteSetgroups m deny) r c is = where_made _ r (change.Word m deny) (λ new. absurd (cc)) is
+made_takes spaces (Install more) r c is = where_made _ r (change.Install more) (λ new. absurd (cc)) is
 made_takes spaces call r c is = absurd (cc)
 
 pub asked_takes : (r : Result Res NoMemory) (changed : Change) (spaces : Spaces) (call : Call) (c : Credential)

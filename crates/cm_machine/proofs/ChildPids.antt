@@ -4,7 +4,7 @@ use Rattle.std.proofs.lemmas.Bool.{cond-true, cond-false, eq-eqb}
 use Rattle.cm_base.specs.declared.errno.Errno.TheVariants.{EAGAIN}
 use Rattle.cm_base.specs.declared.res.Res.{Res}
 use Rattle.cm_base.specs.declared.res.Res.TheVariants.{Done, Id, Child, Err}
-use Rattle.cm_machine.specs.Asking.{GivesOwn, GivesTold, state_of}
+use Rattle.cm_machine.specs.Asking.{GivesOwn, GivesTold, own_permitted, state_of}
 use Rattle.cm_state.specs.Call.{call_of}
 use Rattle.cm_state.specs.declared.call.Call.{Call}
 use Rattle.cm_state.specs.declared.call.Call.TheVariants.{Fork, CloneUser}
@@ -14,13 +14,13 @@ use Rattle.model_cred.specs.Space.{Spaces}
 use Rattle.model_cred.specs.World.{World}
 use Rattle.model_rules.specs.Namespaces.{clone_user}
 use Rattle.model_run.specs.Outside.{comes_from_outside}
-use Rattle.model_run.specs.Ruling.{Ruling, ruling, own, birth, birth_unless, clone_child, fork_child, free_pid, spaces_left}
+use Rattle.model_run.specs.Ruling.{Ruling, permitted_ruling, birth, birth_unless, clone_child, fork_child, free_pid, spaces_left}
 use Rattle.model_run.specs.Same.{same_res}
 use Rattle.model_run.specs.Step.{told_child, told_rules}
 
 -- it counts for births alone
 pub no_birth : (call : Call) → (call ≡ Fork → ⊥) → (call ≡ CloneUser → ⊥) → (w : World) (s : State) (p : Process) (n m : ℕ)
-    → ruling w s p (call_of call) n ≡ ruling w s p (call_of call) m
+    → permitted_ruling w s p (call_of call) n ≡ permitted_ruling w s p (call_of call) m
 no_birth Fork not_fork not_clone w s p n m = absurd (not_fork refl)
 no_birth CloneUser not_fork not_clone w s p n m = absurd (not_clone refl)
 no_birth call not_fork not_clone w s p n m = refl
@@ -48,7 +48,7 @@ cloned_goes _ s child another after is = born_goes s child after (birth s anothe
 pub child_given : (processes : List Process) (call : Call) (pid : ℕ) → is_pid pid ≡ true
     → GivesTold processes (call_of call) (Child pid) pid
 child_given processes Fork pid is = λ w spaces p.
-    born_goes (state_of processes spaces) (fork_child p pid) spaces (own w (state_of processes spaces) p model.Fork) is
+    born_goes (state_of processes spaces) (fork_child p pid) spaces (own_permitted w (state_of processes spaces) p model.Fork) is
 child_given processes CloneUser pid is = λ w spaces p.
     cloned_goes (clone_user spaces p.space p.cred) (state_of processes spaces) (clone_child spaces p pid)
     (clone_child spaces p (free_pid (state_of processes spaces))) (spaces_left (state_of processes spaces) p model.CloneUser) is
@@ -101,8 +101,8 @@ clone_held _ told s child n after pid_is not_child other = birth_held told s chi
 -- of any call
 call_held : (call : Call) (told : Res) (w : World) (s : State) (p : Process) → ((m : ℕ) → told ≡ Child m → ⊥)
     → comes_from_outside (call_of call) told ≡ false
-    → told_rules told (ruling w s p (call_of call) (told_child told)) (own w s p (call_of call))
-    ≡ told_rules told (own w s p (call_of call)) (own w s p (call_of call))
+    → told_rules told (permitted_ruling w s p (call_of call) (told_child told)) (own_permitted w s p (call_of call))
+    ≡ told_rules told (own_permitted w s p (call_of call)) (own_permitted w s p (call_of call))
 call_held Fork told w s p not_child inside =
     birth_held told s (fork_child p) (free_pid s) s.spaces (λ m. refl) not_child (not_again told inside)
 call_held CloneUser told w s p not_child inside =

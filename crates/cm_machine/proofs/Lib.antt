@@ -9,3 +9,5 @@ pub mod Families
 pub mod Errors
 pub mod Chains
 pub mod ChildPids
+pub mod Filtering
+pub mod Sharing

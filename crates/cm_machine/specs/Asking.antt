@@ -1,5 +1,5 @@
 -- What is asked of the rules for a call of a process, and what becomes of what the call has changed.
-use Rattle.std.specs.Prelude.{◌≡◌, ℕ, ◌<◌, Bool, true, false, length, List, ◌∷◌, [], Option, Some, slice_get, unwrap_or}
+use Rattle.std.specs.Prelude.{◌≡◌, ℕ, ◌<◌, Bool, true, false, if◌then◌else◌, length, List, ◌∷◌, [], Option, Some, slice_get, unwrap_or}
 use Rattle.cm_base.specs.Limits.{greatest_number}
 use Rattle.cm_base.specs.declared.res.Res.{Res}
 use Rattle.cm_base.specs.declared.res.Res.TheVariants.{Done, Child}
@@ -9,16 +9,19 @@ use Rattle.cm_machine.specs.declared.ruling.Asked.{Asked}
 use Rattle.cm_nscalls.specs.Answers.{stored_list}
 use Rattle.cm_nscalls.specs.File.{file_of}
 use Rattle.cm_nscalls.specs.declared.file.MapFile.TheVariants as file
-use Rattle.model_cred.specs.Call.{Call, SetGroups, Fork, CloneUser, Unshare, SetNs, WriteUidMap, WriteGidMap, WriteSetgroups, Exit}
+use Rattle.cm_filter.specs.Filters.{Filter, excludes}
+use Rattle.model_cred.specs.Call.{Call, SetGroups, Fork, CloneUser, Unshare, SetNs, WriteUidMap, WriteGidMap, WriteSetgroups, Exit, Install, kind_of}
 use Rattle.model_cred.specs.Credential.{Credential}
 use Rattle.model_cred.specs.Process.{Process, State, is_alive, insert_process, put_process}
 use Rattle.model_cred.specs.Space.{Spaces, put_space, space_of}
 use Rattle.model_cred.specs.World.{World}
+use Rattle.model_rules.specs.Install.{with_installed}
 use Rattle.model_rules.specs.Maps.{UidMap, GidMap, with_map}
 use Rattle.model_rules.specs.Namespaces.{as_newcomer, created_by}
 use Rattle.model_rules.specs.Reply.{reply}
-use Rattle.model_run.specs.Ruling.{Ruling, ruling, own, with_cred, fork_child, clone_child, state_without}
-use Rattle.model_run.specs.Step.{told_child, told_rules}
+use Rattle.model_run.specs.Ruling.{Ruling, permitted_ruling, excluded_ruling, free_pid, with_cred, fork_child, clone_child, state_without}
+use Rattle.model_run.specs.Outside.{comes_from_outside}
+use Rattle.model_run.specs.Step.{Outcome, Goes, told_child, told_rules}
 
 -- the number of a child's pid, 0 (which is no pid) where there is none
 abbrev pub pid_number : Option ℕ → ℕ
@@ -32,18 +35,36 @@ state_of processes spaces = record { processes = processes; spaces = spaces }
 abbrev pub OfCaller : State → ℕ → (Process → Type 0) → Type 0
 OfCaller s at P = (p : Process) → slice_get s.processes at ≡ Some p → P p
 
+-- The own filter of the process excludes the call.
+abbrev pub is_excluded : Process → Call → Bool
+is_excluded p call = excludes p.filter (kind_of call)
+
+-- the own step of a process with a call that its filter permits
+abbrev pub own_permitted : World → State → Process → Call → Ruling
+own_permitted w s p call = permitted_ruling w s p call (free_pid s)
+
 -- With that number for a child's pid the rules give what the process gives of its own.
 abbrev pub GivesOwn : List Process → Call → ℕ → Type 0
 GivesOwn processes call n =
-    (w : World) (spaces : Spaces) (p : Process) → ruling w (state_of processes spaces) p call n ≡ own w (state_of processes spaces) p call
+    (w : World) (spaces : Spaces) (p : Process)
+    → permitted_ruling w (state_of processes spaces) p call n ≡ own_permitted w (state_of processes spaces) p call
 
 -- With that number for a child's pid the rules give what the told result is held against, and the process's own answer
 -- where it is another.
 abbrev pub GivesTold : List Process → Call → Res → ℕ → Type 0
 GivesTold processes call told n =
     (w : World) (spaces : Spaces) (p : Process)
-    → told_rules told (ruling w (state_of processes spaces) p call (told_child told)) (own w (state_of processes spaces) p call)
-    ≡ told_rules told (ruling w (state_of processes spaces) p call n) (ruling w (state_of processes spaces) p call n)
+    → told_rules told (permitted_ruling w (state_of processes spaces) p call (told_child told)) (own_permitted w (state_of processes spaces) p call)
+    ≡ told_rules told (permitted_ruling w (state_of processes spaces) p call n) (permitted_ruling w (state_of processes spaces) p call n)
+
+-- What becomes of a call that the process's filter permits, with the result that is told.
+abbrev pub told_permitted : World → State → Process → Call → Res → Outcome
+told_permitted w s p call told =
+    if comes_from_outside call told then Goes s else told_rules told (permitted_ruling w s p call (told_child told)) (own_permitted w s p call)
+
+-- what becomes of one that it excludes
+abbrev pub told_excluded : State → Res → Outcome
+told_excluded s told = told_rules told (excluded_ruling s) (excluded_ruling s)
 
 -- what setgroups with that answer changes, where these were the groups
 abbrev pub groups_change : Res → List ℕ → Change
@@ -76,10 +97,11 @@ change_by spaces (WriteUidMap n given) res c = where_done res (change.Map file.U
 change_by spaces (WriteGidMap n given) res c = where_done res (change.Map file.GidMap (record { 0 = n }) (stored_list GidMap spaces n given))
 change_by spaces (WriteSetgroups n deny) res c = where_done res (change.Word (record { 0 = n }) deny)
 change_by spaces Exit res c = change.Exit
+change_by spaces (Install more) res c = where_done res (change.Install more)
 change_by spaces call res c = change.Fields
 
--- the credential in which a call leaves its caller before its change is kept: a birth, an exit and the calls of spaces leave
--- the one that it has
+-- the credential in which a call leaves its caller before its change is kept: a birth, an exit, the calls of spaces and
+-- an install leave the one that it has
 abbrev pub cred_after : World → Spaces → Process → Call → Credential
 cred_after w spaces p Fork = p.cred
 cred_after w spaces p CloneUser = p.cred
@@ -89,6 +111,7 @@ cred_after w spaces p (WriteUidMap n given) = p.cred
 cred_after w spaces p (WriteGidMap n given) = p.cred
 cred_after w spaces p (WriteSetgroups n deny) = p.cred
 cred_after w spaces p Exit = p.cred
+cred_after w spaces p (Install more) = p.cred
 cred_after w spaces p call = (reply w.files spaces p.space p.cred call).cred
 
 -- the credential with no supplementary group
@@ -133,6 +156,10 @@ entered s p = record {
   spaces = created_by s.spaces p.space p.cred ∷ s.spaces;
 }
 
+-- the state where the process has installed that filter
+abbrev pub filtered : State → Process → Filter → State
+filtered s p more = record s { processes = put_process (record p { filter = with_installed p.filter more }) s.processes }
+
 -- the state where the change of the process is kept: what is still to be made of it is made
 abbrev pub kept : Change → Process → State → State
 kept (change.Birth pid) p s = born s p pid
@@ -142,6 +169,7 @@ kept (change.Join n) p s = joined s p n.0
 kept (change.Map which n map) p s = record s { spaces = put_space n.0 (with_map (file_of which) (space_of s.spaces n.0) map) s.spaces }
 kept (change.Word n deny) p s = record s { spaces = put_space n.0 (record (space_of s.spaces n.0) { deny = deny }) s.spaces }
 kept change.Exit p s = state_without s p
+kept (change.Install more) p s = filtered s p more
 kept _ p s = s
 
 -- what is still to be made of the change is a process or a space

@@ -1,7 +1,7 @@
 // What a call has changed of its caller, as it was before, and what is still to be made of it: where the told result is
 // the rules' own, the change is kept, and else it is undone. A birth, an exit and what a call does to the spaces are
-// made as they are kept, since their answers are known before: an exit can't be undone, as nothing shows which children
-// had the one that is gone, and what was never made needs no undoing.
+// made as they are kept, and so is an install, since their answers are known before: an exit can't be undone, as
+// nothing shows which children had the one that is gone, and what was never made needs no undoing.
 ghost use Rattle.std.specs.Prelude.{◌≡◌, ◌<◌, length, true, OnErr};
 ghost use Rattle.cm_base.specs.Outcome.{OrNoMemory, UnchangedOnErr};
 ghost use Rattle.cm_machine.specs.Asking.{CanKeep, OfCaller, kept, makes_new, undone, undone_cred};
@@ -11,7 +11,9 @@ ghost use Rattle.model_cred.specs.Process.{Process};
 use crate::births::{clone_as, fork_as};
 use crate::entries::{enter_new, join};
 use crate::exits::exit;
+use crate::filters::install;
 use cm_base::{NoMemory, Pid, SpaceId};
+use cm_filter::Filter;
 use cm_idmap::IdMap;
 use cm_nscalls::{MapFile, set_map};
 use cm_state::{Cred, Groups, State};
@@ -41,6 +43,8 @@ pub(crate) enum Change {
     Word(SpaceId, bool),
     /// The caller is to go. Nothing changed so far.
     Exit,
+    /// The caller is to install this filter. Nothing changed so far.
+    Install(Filter),
 }
 
 /// Keeps what the process at this place has changed, and makes what is still to be made of it. Births and new spaces
@@ -77,6 +81,10 @@ pub(crate) fn keep(
         }
         Change::Exit => {
             exit(state, at);
+            Ok(())
+        }
+        Change::Install(more) => {
+            install(state, at, more);
             Ok(())
         }
         Change::Nothing | Change::Fields | Change::Groups(_) => Ok(()),

@@ -8,6 +8,7 @@ mod entries;
 mod error;
 mod exits;
 mod family;
+mod filters;
 mod laws;
 mod machine;
 mod own;

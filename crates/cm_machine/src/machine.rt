@@ -8,16 +8,19 @@ ghost use Rattle.cm_machine.specs.Outcomes.{IsOwn, IsNoAnswer, takes_memory};
 ghost use Rattle.cm_state.specs.Call.{call_of};
 ghost use Rattle.cm_declared.specs.World.{world_of};
 ghost use Rattle.model_run.specs.Family.{family};
+ghost use Rattle.model_run.specs.Own.{common_filter};
 ghost use Rattle.model_run.specs.Step as outcome;
 ghost use Rattle.model_cred.specs.Process.{process_at, is_alive};
 ghost use Rattle.model_run.specs.Step.{outcome, names_no_space};
 
 use crate::error::StepError;
 use crate::family::family_of;
+use crate::filters::shared_by;
 use crate::own::make_own;
 use crate::step::told_call;
 use cm_base::{NoMemory, Pid, Res};
 use cm_declared::World;
+use cm_filter::Filter;
 use cm_state::{Call, Event, Spaces, State};
 use std::alloc::Global;
 
@@ -41,7 +44,8 @@ impl Machine {
     /// call's manual page (docs/RULES.md). The errors come in this order (choice): NoProcess exactly where no process
     /// of the pid is alive; NoSpace exactly where the call names a user namespace that doesn't stand; PidInUse exactly
     /// where the result is a child that is alive; Wrong exactly where the result is neither an error from outside that
-    /// the call may answer, which changes nothing (choice), nor what the rules give (with the process's own answer);
+    /// the call may answer, which changes nothing (choice), nor what the rules give (with the process's own answer),
+    /// and of a call that the process's own filter excludes where it isn't EPERM, which changes nothing (choice);
     /// NoMemory may come with a call that carries a list or makes a process or a space, and with no other. The machine
     /// is as it was after each, and after a step whose result is an error. Fewer than 4294967295 spaces stand before
     /// it.
@@ -68,12 +72,12 @@ impl Machine {
         }
     }
 
-    /// Makes the call of the process as the rules give it, and says what it answers, an error of the rules too. The
-    /// child of fork has the least pid that isn't alive, or the answer is EAGAIN where all are (choice). The errors are
-    /// NoProcess exactly where no process of the pid is alive, NoSpace exactly where the call names a user namespace
-    /// that doesn't stand, and NoMemory, which may come with a call that carries a list or makes a process or a space,
-    /// and with no other. The machine is as it was after each, and after an error that the rules answer. Fewer than
-    /// 4294967295 spaces stand before it.
+    /// Makes the call of the process as the rules give it, and says what it answers, an error of the rules too; EPERM
+    /// where its own filter excludes the call (choice). The child of fork has the least pid that isn't alive, or the
+    /// answer is EAGAIN where all are (choice). The errors are NoProcess exactly where no process of the pid is alive,
+    /// NoSpace exactly where the call names a user namespace that doesn't stand, and NoMemory, which may come with a
+    /// call that carries a list or makes a process or a space, and with no other. The machine is as it was after each,
+    /// and after an error that the rules answer. Fewer than 4294967295 spaces stand before it.
     pub fn answer(
         &mut self,
         alloc: Global,
@@ -98,6 +102,15 @@ impl Machine {
             return Err(StepError::NoSpace);
         }
         Ok(make_own(alloc, w, &mut self.state, at, call)?)
+    }
+
+    /// The filter that is common to the world and to all these live processes: it excludes what the world's filter
+    /// excludes, and what the own filters of all of them exclude. None of them makes such a call in a later run, nor does
+    /// a child of theirs.
+    pub fn common(&self, w: &World, members: &[Pid]) -> Filter
+        ensures { result ≡ common_filter (world_of w.now) self.now.state members.now }
+    {
+        w.filter.with(shared_by(&self.state, members))
     }
 
     /// The pids of the process and of all whose chain of forebears reaches it, ascending; none where it isn't alive. It

@@ -1,6 +1,6 @@
-// The rules are asked here, and here alone: what they answer a call of a process, and what the call changes. `ask` is
-// `ruling` of the definitions, but that a birth, an exit and what a call does to the spaces are still to be made, and
-// any change can be undone.
+// The rules are asked here, and here alone: what they answer a call of a process that its filter permits, and what the
+// call changes. `ask` is `permitted_ruling` of the definitions, but that a birth, an exit, an install and what a call
+// does to the spaces are still to be made, and any change can be undone.
 ghost use Rattle.std.specs.Prelude.{◌≡◌, ◌<◌, ℕ, length, List, true, false, IfSome, OnErr};
 ghost use Rattle.cm_base.specs.Limits.{greatest_number};
 ghost use Rattle.cm_base.specs.Outcome.{OrNoMemory, UnchangedOnErr};
@@ -16,11 +16,12 @@ ghost use Rattle.cm_declared.specs.World.{world_of};
 ghost use Rattle.model_cred.specs.Process.{Process, is_alive};
 ghost use Rattle.model_rules.specs.Maps.{write_map};
 ghost use Rattle.model_rules.specs.SetGroups.{setgroups};
-ghost use Rattle.model_run.specs.Ruling.{ruling};
+ghost use Rattle.model_run.specs.Ruling.{permitted_ruling};
 ghost use Rattle.model_run.specs.Step.{names_no_space};
 
 use crate::births::{birth, inner_birth};
 use crate::change::Change;
+use crate::filters::may_install;
 use cm_base::{Errno, NoMemory, Pid, Res};
 use cm_capcalls::{
     amb_clear, amb_lower, amb_raise, bset_drop, cap_set, keep_caps, no_new_privs, secure_bits,
@@ -44,10 +45,10 @@ pub(crate) struct Asked {
     pub change: Change,
 }
 
-/// Asks the rules for the call of the process at this place, a birth with that pid for its child. What the call changes
-/// is written to the place that is given for it, which says before that no more than fields may change: where that is
-/// so, as for most calls, nothing is written there. It fails only where memory runs out, of a call that can take
-/// memory, and then the state is unchanged.
+/// Asks the rules for the call of the process at this place, which its filter permits, a birth with that pid for its
+/// child. What the call changes is written to the place that is given for it, which says before that no more than
+/// fields may change: where that is so, as for most calls, nothing is written there. It fails only where memory runs
+/// out, of a call that can take memory, and then the state is unchanged.
 #[inline]
 pub(crate) fn ask(
     alloc: Global,
@@ -64,7 +65,7 @@ pub(crate) fn ask(
     requires stands { names_no_space state.old.spaces (call_of call.now) ≡ false }
     requires room { length state.old.spaces < greatest_number }
     ensures asked { OrNoMemory result (λ res. AsksRules (record { res = res; change = changed.new }) at state.new state.old
-        (λ p. ruling (world_of w.now) state.old p (call_of call.now) (pid_number child))) }
+        (λ p. permitted_ruling (world_of w.now) state.old p (call_of call.now) (pid_number child))) }
     ensures can { OrNoMemory result (λ _. CanKeep changed.new state.new) }
     ensures made { OrNoMemory result (λ _. makes_new changed.new ≡ true → takes_memory (call_of call.now) ≡ true) }
     ensures memory { OnErr result (takes_memory (call_of call.now) ≡ true) }
@@ -91,7 +92,7 @@ fn ask_caller(
     requires fields { changed.old ≡ change.Fields }
     requires stands { names_no_space spaces.now (call_of call.now) ≡ false }
     ensures res { (processes : List Process) → OrNoMemory result (λ res.
-        res ≡ (ruling (world_of w.now) (state_of processes spaces.now) p.old (call_of call.now) (pid_number child)).res) }
+        res ≡ (permitted_ruling (world_of w.now) (state_of processes spaces.now) p.old (call_of call.now) (pid_number child)).res) }
     ensures cred { OrNoMemory result (λ _. p.new.cred ≡ cred_after (world_of w.now) spaces.now p.old (call_of call.now)) }
     ensures change { OrNoMemory result (λ res. changed.new ≡ change_by spaces.now (call_of call.now) res p.old.cred) }
     ensures rest { p.new ≡ record p.old { cred = p.new.cred } }
@@ -161,6 +162,10 @@ fn ask_caller(
         Call::Exit => {
             *changed = Change::Exit;
             return Ok(Res::Done);
+        }
+        Call::Install(more) => {
+            let may = may_install(c);
+            return Ok(leave(to_make(may, Change::Install(*more)), changed));
         }
     };
     Ok(res)

@@ -31,3 +31,4 @@ call_of (code.WriteGidMap space given) = model.WriteGidMap space.0 given
 call_of (code.WriteSetgroups space deny) = model.WriteSetgroups space.0 deny
 call_of (code.Exec file) = model.Exec file
 call_of code.Exit = model.Exit
+call_of (code.Install more) = model.Install more

@@ -8,7 +8,7 @@ use Rattle.cm_base.specs.declared.res.FileRef.TheVariants.{Row, Plain}
 use Rattle.cm_filter.specs.declared.kind.CallKind.{CallKind}
 use Rattle.cm_filter.specs.declared.kind.CallKind.TheVariants as kind
 use Rattle.cm_filter.specs.Kinds.{call_kinds, kind_number}
-use Rattle.cm_filter.specs.Shapes.{Form, AWord, AFile, Pattern, Just, Ids, Triples, pattern_of}
+use Rattle.cm_filter.specs.Shapes.{Form, AWord, AFile, AKind, Pattern, Just, Ids, Triples, Kinds, pattern_of}
 use Rattle.model_cred.specs.Call.{Call}
 use Rattle.model_cred.specs.Carried.{Value, Values, Carries}
 use Rattle.model_cred.specs.IdMap.{Extent}
@@ -49,6 +49,7 @@ coded_extent = code_by (ℕ × (ℕ × ℕ)) (coded× coded_ℕ (coded× coded_�
 abbrev coded_value : (form : Form) → Coded (Value form)
 coded_value AWord = coded_bool
 coded_value AFile = coded_file
+coded_value AKind = coded_kind
 coded_value _ = coded_ℕ
 
 abbrev coded_values : (forms : List Form) → Coded (Values forms)
@@ -59,6 +60,7 @@ abbrev coded_carried : (pattern : Pattern) → Coded (Carries pattern)
 coded_carried (Just forms) = coded_values forms
 coded_carried Ids = coded_list coded_ℕ
 coded_carried Triples = coded× coded_ℕ (coded_list coded_extent)
+coded_carried Kinds = coded_ℕ
 
 -- a call
 abbrev pub coded_call : Coded Call

@@ -5,7 +5,7 @@ ghost use Rattle.model_cred.specs.Call.{kind_of};
 
 use crate::{Extents, Ids};
 use cm_base::{CapWord, FileRef, SpaceId};
-use cm_filter::CallKind;
+use cm_filter::{CallKind, Filter};
 
 /// A call with its arguments: ids as the caller's user namespace sees them, or -1.
 #[derive(Debug, Drop)]
@@ -69,6 +69,8 @@ pub enum Call {
     Exec(FileRef),
     /// _exit(2): the caller lives no longer.
     Exit,
+    /// The installing of a filter (seccomp(2)): the kinds that it excludes.
+    Install(Filter),
 }
 
 impl Call {
@@ -103,6 +105,7 @@ impl Call {
             Call::WriteSetgroups { .. } => CallKind::WriteSetgroups,
             Call::Exec(_) => CallKind::Exec,
             Call::Exit => CallKind::Exit,
+            Call::Install(_) => CallKind::Install,
         }
     }
 }

@@ -5,10 +5,11 @@ ghost use Rattle.cm_state.specs.Call.{call_of};
 ghost use Rattle.model_cred.specs.Arguments as argument;
 ghost use Rattle.model_cred.specs.Arguments.{arguments_of};
 ghost use Rattle.model_cred.specs.Call.{kind_of};
+ghost use Rattle.model_cred.specs.Call as model;
 
 use crate::{Call, Extents, Ids};
 use cm_base::{CapWord, FileRef, SpaceId};
-use cm_filter::{CallKind, Shape};
+use cm_filter::{CallKind, Filter, Shape};
 
 impl Call {
     /// The call of that kind without arguments.
@@ -145,5 +146,14 @@ impl Call {
         ensures arguments { arguments_of (call_of result) ≡ argument.File file ∷ [] }
     {
         Call::Exec(file)
+    }
+
+    /// The call of that kind with a filter.
+    pub fn with_filter(kind: CallKind, filter: Filter) -> Call
+        requires { shape_of kind ≡ Shape.ManyKinds }
+        ensures kind { kind_of (call_of result) ≡ kind }
+        ensures call { call_of result ≡ model.Install filter }
+    {
+        Call::Install(filter)
     }
 }

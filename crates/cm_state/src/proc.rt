@@ -1,6 +1,7 @@
-// A process, as the machine keeps it: its pid, whom it descends from, where it is, and its credentials.
+// A process, as the machine keeps it: its pid, whom it descends from, where it is, its credentials and its filter.
 use crate::Cred;
 use cm_base::{NoMemory, Pid, SpaceId};
+use cm_filter::Filter;
 use cm_ordered::Numbered;
 use std::alloc::Global;
 use std::marker::Model;
@@ -14,6 +15,8 @@ pub struct Proc {
     pub forebear: Option<Pid>,
     pub space: SpaceId,
     pub cred: Box<Cred>,
+    /// What the process has excluded by the filters that it installed (seccomp(2)).
+    pub filter: Filter,
 }
 
 impl Model for Proc {
@@ -22,7 +25,7 @@ impl Model for Proc {
 
     ghost Value = { Process };
 
-    ghost view = { λ p. record { pid = p.pid; forebear = p.forebear; space = p.space.0; cred = box_value p.cred } };
+    ghost view = { λ p. record { pid = p.pid; forebear = p.forebear; space = p.space.0; cred = box_value p.cred; filter = p.filter } };
 }
 
 impl Proc {
@@ -39,6 +42,7 @@ impl Proc {
             forebear: self.forebear,
             space: self.space,
             cred,
+            filter: self.filter,
         })
     }
 }

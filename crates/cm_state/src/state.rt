@@ -2,10 +2,12 @@
 ghost use Rattle.std.specs.Prelude.{◌≡◌};
 ghost use Rattle.cm_state.specs.Right.{right_of};
 ghost use Rattle.model_run.specs.Holds.{holds_right as model_holds_right, process_holds};
+ghost use Rattle.model_run.specs.Own.{filter_of};
 ghost use Rattle.model_run.specs.Within as within;
 
 use crate::{Proc, Procs, Right, Spaces};
 use cm_base::{Limited, NoMemory, Pid};
+use cm_filter::Filter;
 use std::alloc::Global;
 use std::marker::Model;
 
@@ -49,6 +51,17 @@ impl State {
         }
     }
 
+    /// The own filter of the process of that pid: what the filters exclude that it has installed or inherited. It
+    /// excludes every kind where no such process is alive, which makes no call. It takes no memory.
+    pub fn filter_of(&self, pid: Pid) -> Filter
+        ensures { result ≡ filter_of self.now pid }
+    {
+        match self.procs.find(pid) {
+            Some(at) => own_filter(&self.procs.list[at]),
+            None => Filter::every_kind(),
+        }
+    }
+
     /// The limit that the state exceeds: that of live processes, else that of user namespaces. None exactly where it
     /// exceeds neither. It takes no memory.
     pub fn exceeded(&self) -> Option<Limited>
@@ -62,6 +75,12 @@ impl State {
             None
         }
     }
+}
+
+fn own_filter(p: &Proc) -> Filter
+    ensures { result ≡ p.now.filter }
+{
+    p.filter
 }
 
 // The process holds the right: the capability over the space, the effective user id, or the group id as its effective or a

@@ -21,7 +21,13 @@ returns c p there =
     let before : State = record { processes = c.procs.inside.list.items; spaces = c.state.inside.spaces } in
     let after : State = record before {
       processes = slice_set c.procs.inside.list.items c.args.at
-          (record { pid = c.p.inside.pid; forebear = c.p.inside.forebear; space = c.p.inside.space.0; cred = c.undo_cred.new.c });
+          (record {
+            pid = c.p.inside.pid;
+            forebear = c.p.inside.forebear;
+            space = c.p.inside.space.0;
+            cred = c.undo_cred.new.c;
+            filter = c.p.inside.filter;
+          });
     } in
     let same : before ≡ c.args.state.now
     = ap (λ (ps : List Process). record { processes = ps; spaces = c.state.inside.spaces }) c.procs.view_is

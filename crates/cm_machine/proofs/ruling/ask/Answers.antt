@@ -8,7 +8,7 @@ use Rattle.cm_machine.specs.Asking.{AsksRules, pid_number}
 use Rattle.cm_state.specs.Call.{call_of}
 use Rattle.cm_declared.specs.World.{world_of}
 use Rattle.model_cred.specs.Process.{Process, State}
-use Rattle.model_run.specs.Ruling.{Ruling, ruling}
+use Rattle.model_run.specs.Ruling.{Ruling, permitted_ruling}
 
 pub invariant_of-state : goal.invariant_of-state
 invariant_of-state c =
@@ -28,7 +28,7 @@ returns-clause-asked c =
     let same : before ≡ c.args.state.now
     = ap (λ (ps : List Process). record { processes = ps; spaces = c.state.inside.spaces }) c.procs.view_is ∙ c.state.view_is in
     let w = world_of c.args.w.now in
-    let rules : State → Process → Ruling = λ s p. ruling w s p (call_of c.args.call.now) (pid_number c.args.child) in
+    let rules : State → Process → Ruling = λ s p. permitted_ruling w s p (call_of c.args.call.now) (pid_number c.args.child) in
     subst (λ (s : State). OrNoMemory c.ask_caller.result
     (λ (res : Res). AsksRules (record { res = res; change = c.ask_caller.new.changed }) c.args.at after s (rules s))) same
     (asked_is w before c.args.call.now c.args.child c.args.at c.index_mut-p.result.now c.ask_caller.new.p

@@ -56,6 +56,12 @@ returns-in-WriteSetgroups-clause-res c = λ processes. rw c.in-WriteSetgroups.is
 pub returns-in-WriteSetgroups-clause-change : goal.returns-in-WriteSetgroups-clause-change
 returns-in-WriteSetgroups-clause-change c = rw c.in-WriteSetgroups.is (search rules)
 
+pub returns-in-Install-clause-res : goal.returns-in-Install-clause-res
+returns-in-Install-clause-res c = λ processes. rw c.in-Install.is (search rules)
+
+pub returns-in-Install-clause-change : goal.returns-in-Install-clause-change
+returns-in-Install-clause-change c = rw c.in-Install.is (search rules)
+
 pub returns-clause-res : goal.returns-clause-res
 returns-clause-res c = λ processes. elim c.match-call.branch [
   | in-SetUid w ↦ rw w.in-SetUid.is (search rules)

@@ -1,23 +1,33 @@
-use Rattle.std.proofs.Common.{◌≡◌, ap, ◌∙◌}
-use Rattle.cm_machine.proofs.Asking.{nothing_before, on_err, undone_before}
-use Rattle.cm_machine.proofs.Changing.{same_there, some_at}
+use Rattle.std.proofs.Common.{◌≡◌, true, false, sym, ap, subst, ◌∙◌}
+use Rattle.cm_base.specs.declared.res.Res.{Res}
+use Rattle.cm_declared.specs.World.{world_of}
+use Rattle.cm_machine.proofs.Filtering.{told_where_excluded, told_where_permitted}
 use Rattle.cm_machine.proofs.step.told_call.Goals as goal
-use Rattle.cm_machine.specs.Asking.{without_groups}
-use Rattle.model_cred.specs.Process.{Process, State}
+use Rattle.cm_machine.specs.Asking.{is_excluded, told_excluded}
+use Rattle.cm_machine.specs.Outcomes.{Becomes}
+use Rattle.cm_state.specs.Call.{call_of}
+use Rattle.model_cred.specs.Call.{Call, Event}
+use Rattle.model_cred.specs.Process.{State}
+use Rattle.model_run.specs.Step.{Outcome}
 
-pub returns-in_err-keep-clause-unchanged : goal.returns-in_err-keep-clause-unchanged
-returns-in_err-keep-clause-unchanged c =
-    let p = some_at c.args.state.now.processes c.args.at c.requires.here in
-    on_err c.from_residual-in_err-keep.result
-    (nothing_before _ _ c.args.at c.ask.new.state c.args.state.now c.keep.new.state _ (c.in_ok-res.ensures.asked p.0 p.1)
-    c.in_err-keep.ensures.nothing c.in_err-keep.ensures.unchanged)
+pub returns-then-is_excluded-clause-becomes : goal.returns-then-is_excluded-clause-becomes
+returns-then-is_excluded-clause-becomes c = λ p there.
+    let s : State = c.args.state.now in
+    let procs : c.state.inside.procs ≡ s.processes = ap (λ (t : State). t.processes) c.state.view_is in
+    let call : call_of c.e.inside.call ≡ c.args.e.now.call = ap (λ (e : Event). e.call) c.e.view_is in
+    let res : c.e.inside.res ≡ c.args.e.now.res = ap (λ (e : Event). e.res) c.e.view_is in
+    let is : is_excluded p c.args.e.now.call ≡ true
+    = ap (λ (k : Call). is_excluded p k) (sym call) ∙ sym (c.is_excluded.ensures p (rw procs there)) ∙ c.if-is_excluded.true in
+    subst (λ (o : Outcome). Becomes c.told_excluded.result s o)
+    (ap (λ (r : Res). told_excluded s r) res ∙ sym (told_where_excluded (world_of c.args.w.now) s p c.args.e.now.call c.args.e.now.res is))
+    (c.told_excluded.ensures.becomes s)
 
-pub returns-else-is_same-clause-unchanged : goal.returns-else-is_same-clause-unchanged
-returns-else-is_same-clause-unchanged c =
-    let p = some_at c.args.state.now.processes c.args.at c.requires.here in
-    let items : c.procs.inside.list.items ≡ c.args.state.now.processes = c.procs.view_is ∙ ap (λ (s : State). s.processes) c.state.view_is in
-    let it : c.index-p.result.now ≡ p.0
-    = same_there c.procs.inside.list.items c.args.at c.index-p.result.now p.0 (rw items c.requires.here) c.index-p.ensures (rw items p.1) in
-    let old : c.without_groups-old.result ≡ without_groups p.0.cred
-    = c.without_groups-old.ensures ∙ ap without_groups c.deref.ensures ∙ ap (λ (q : Process). without_groups q.cred) (c.p.view_is ∙ it) in
-    undone_before _ _ _ c.args.at c.ask.new.state c.args.state.now c.undo.new.state _ (c.in_ok-res.ensures.asked p.0 p.1) old c.undo.ensures
+pub returns-clause-becomes : goal.returns-clause-becomes
+returns-clause-becomes c = λ p there.
+    let s : State = c.args.state.now in
+    let procs : c.state.inside.procs ≡ s.processes = ap (λ (t : State). t.processes) c.state.view_is in
+    let call : call_of c.e.inside.call ≡ c.args.e.now.call = ap (λ (e : Event). e.call) c.e.view_is in
+    let is : is_excluded p c.args.e.now.call ≡ false
+    = ap (λ (k : Call). is_excluded p k) (sym call) ∙ sym (c.is_excluded.ensures p (rw procs there)) ∙ c.if-is_excluded.false in
+    subst (λ (o : Outcome). Becomes c.told_permitted.result c.told_permitted.new.state o)
+    (sym (told_where_permitted (world_of c.args.w.now) s p c.args.e.now.call c.args.e.now.res is)) (c.told_permitted.ensures.becomes p there)
