@@ -1,6 +1,7 @@
 // The credential line of a process, as text.
 ghost use Rattle.std.specs.Prelude.{◌≡◌, ◌++◌, ◌∷◌, [], None, codes, decimal, flat_map};
 ghost use Rattle.cm_base.specs.Outcome.{OrNoMemory};
+ghost use Rattle.cm_filter.specs.Filters.{no_filter};
 ghost use Rattle.cm_tokens.specs.Pieces.{Appends};
 ghost use Rattle.model_text.specs.Print.{credential_line, ids_text, groups_text, all_ids_text, sets_text, bounds_text, flags_text};
 ghost use Rattle.model_text.specs.SpaceToken.{space_token};
@@ -12,7 +13,8 @@ use cm_tokens::{put, put_decimal, put_hex2, put_hex16};
 use std::alloc::Global;
 
 /// The credential line of a process of that pid in that user namespace, without LF: the namespace by its name in the
-/// world, where it has one. It tells nothing of the process's forebear. It fails only where memory runs out.
+/// world, where it has one. It tells nothing of the process's forebear and of its filter. It fails only where memory
+/// runs out.
 pub fn credentials(
     alloc: Global,
     cred: &Cred,
@@ -21,7 +23,7 @@ pub fn credentials(
     w: &World,
 ) -> Result<Vec<u8>, NoMemory>
     ensures { OrNoMemory result (λ text. text.items ≡ credential_line w.now.names
-        (record { pid = pid; forebear = None; space = space.0; cred = cred.now })) }
+        (record { pid = pid; forebear = None; space = space.0; cred = cred.now; filter = no_filter })) }
 {
     let mut text = Vec::new(alloc);
     put_credentials(&mut text, cred, pid, space, w)?;
@@ -37,8 +39,8 @@ pub fn put_credentials(
     space: SpaceId,
     w: &World,
 ) -> Result<(), NoMemory>
-    ensures { OrNoMemory result (λ _. Appends text.old.items text.new.items
-        (credential_line w.now.names (record { pid = pid; forebear = None; space = space.0; cred = cred.now }))) }
+    ensures { OrNoMemory result (λ _. Appends text.old.items text.new.items (credential_line w.now.names
+        (record { pid = pid; forebear = None; space = space.0; cred = cred.now; filter = no_filter }))) }
 {
     put_place(text, pid, space, w)?;
     put_all_ids(text, cred)?;
@@ -56,7 +58,7 @@ pub fn put_credential_line(
     w: &World,
 ) -> Result<(), NoMemory>
     ensures { OrNoMemory result (λ _. Appends text.old.items text.new.items (credential_line w.now.names
-        (record { pid = pid; forebear = None; space = space.0; cred = cred.now }) ++ 10 ∷ [])) }
+        (record { pid = pid; forebear = None; space = space.0; cred = cred.now; filter = no_filter }) ++ 10 ∷ [])) }
 {
     put_credentials(text, cred, pid, space, w)?;
     put(text, b"\n")

@@ -3,6 +3,7 @@
 ghost use Rattle.std.specs.Prelude.{◌≡◌, ◌++◌, ◌<◌, ◌≤◌, ◌∷◌, [], ℕ, List, None, codes, decimal, length};
 ghost use Rattle.cm_base.specs.Outcome.{OrNoMemory};
 ghost use Rattle.cm_credentials.specs.Kept.{Keeps, KeepsGroups, KeepsLine, KeepsNumber};
+ghost use Rattle.cm_filter.specs.Filters.{no_filter};
 ghost use Rattle.cm_tokens.specs.Pieces.{Appends};
 ghost use Rattle.model_text.specs.Print.{credential_line, groups_text};
 
@@ -81,7 +82,7 @@ impl KeptLines {
     ) -> Result<(), NoMemory>
         requires keeps { Keeps w.now.names self.old }
         ensures text { OrNoMemory result (λ _. Appends text.old.items text.new.items (credential_line w.now.names
-            (record { pid = pid; forebear = None; space = space.0; cred = cred.now }) ++ 10 ∷ [])) }
+            (record { pid = pid; forebear = None; space = space.0; cred = cred.now; filter = no_filter }) ++ 10 ∷ [])) }
         ensures keeps { OrNoMemory result (λ _. Keeps w.now.names self.new) }
     {
         if cred.groups.items().len() > MOST_KEPT_GROUPS {
@@ -130,7 +131,7 @@ impl KeptLine {
         requires keeps { KeepsLine w.now.names self.old }
         requires few { length cred.now.groups ≤ 40 }
         ensures text { OrNoMemory result (λ _. Appends text.old.items text.new.items (credential_line w.now.names
-            (record { pid = pid; forebear = None; space = space.0; cred = cred.now }) ++ 10 ∷ [])) }
+            (record { pid = pid; forebear = None; space = space.0; cred = cred.now; filter = no_filter }) ++ 10 ∷ [])) }
         ensures keeps { OrNoMemory result (λ _. KeepsLine w.now.names self.new) }
     {
         self.place.put(text, pid, space, w)?;

@@ -49,6 +49,7 @@ fn first_proc(alloc: Global) -> Result<Proc, NoMemory>
         forebear: None,
         space: SpaceId(0),
         cred,
+        filter: Filter::none(),
     })
 }
 

@@ -9,9 +9,9 @@ use Rattle.cm_filter.specs.Kinds.{call_name}
 use Rattle.cm_script.specs.Own.{IsWord, IsOwn, TakesCall}
 use Rattle.model_cred.specs.Call.{Event, kind_of}
 use Rattle.model_cred.specs.World.{World}
-use Rattle.model_text.proofs.ReadBack.{Written, id_written, number_written, cap_argument_written, set_written, word_written, own_event_read_back}
+use Rattle.model_text.proofs.ReadBack.{Written, id_written, number_written, cap_argument_written, set_written, word_written, kind_argument_written, own_event_read_back}
 use Rattle.model_text.proofs.Tokens.{IsToken}
-use Rattle.model_text.specs.Arguments.{Argument, Id, Number, Cap, Set, Space, Word, File, arguments_of, spaced_texts}
+use Rattle.model_text.specs.Arguments.{Argument, Id, Number, Cap, Set, Space, Word, File, Kind, arguments_of, spaced_texts}
 use Rattle.model_text.specs.Line.{Tells, script_line, groups_fit}
 use Rattle.model_text.specs.Print.{event_text}
 use Rattle.model_text.specs.Token.{res_text}
@@ -29,6 +29,7 @@ own_written w (Cap n) own = cap_argument_written w n own
 own_written w (Set n) own = set_written w n own
 own_written w (Space n) own = record { token = word_token _ own.word; plain = own.word.other; back = ap (option_map Space) own.back }
 own_written w (Word deny) own = word_written w deny
+own_written w (Kind kind) own = kind_argument_written w kind own
 own_written w (File file) own = record { token = word_token _ own.word; plain = own.word.other; back = ap (option_map File) own.back }
 
 -- The pieces of a line, from left to right.
@@ -67,5 +68,6 @@ pieces_tell w line e number kind rest outcome last are may groups =
       pid = and_from (nat_le 1 e.pid) (nat_le e.pid last_pid) (le-leb 1 e.pid low) (le-leb e.pid last_pid high);
       arguments = All-weaker (IsOwn w) (Written w) (own_written w) (arguments_of e.call) are.call.arguments.own;
       groups = groups;
+      filter = are.call.filter;
       result = subst May (sym are.call.of_kind) may;
     })

@@ -1,12 +1,18 @@
 -- The arguments of a call, as they are written one after the other.
-use Rattle.std.proofs.Common.{◌≡◌, ℕ, List, [], ◌∷◌, ◌++◌, Result, Ok, Err, ◌⊎◌, inl, inr, sym, ap, subst, ◌∙◌, append_assoc, append-nil}
+use Rattle.std.proofs.Common.{◌≡◌, ℕ, ◌+◌, ◌<◌, ◌≤◌, Bool, true, false, not, List, [], ◌∷◌, ◌++◌, Result, Ok, Err, ◌⊎◌, inl, inr, refl, sym, ap, subst, ◌∙◌}
+use Rattle.std.proofs.Common.{append_assoc, append-nil, drop, filter, get_or, length, map}
+use Rattle.std.proofs.lemmas.List.{drop_all}
 use Rattle.cm_base.specs.Outcome.{OrNoMemory}
+use Rattle.cm_filter.specs.Filters.{Filter, excluded_kinds, excludes, permits}
+use Rattle.cm_filter.specs.Kinds.{call_kinds, call_name}
+use Rattle.cm_filter.specs.declared.kind.CallKind.{CallKind}
+use Rattle.cm_script.proofs.Items.{failing_next, passing_next}
 use Rattle.cm_state.specs.Call.{call_of}
 use Rattle.cm_state.specs.declared.call.Call.{Call}
 use Rattle.cm_tokens.specs.Pieces.{Appends}
 use Rattle.model_cred.specs.Call as model
 use Rattle.model_cred.specs.World.{World}
-use Rattle.model_text.specs.Arguments.{Argument, arguments_of, spaced_text, spaced_texts}
+use Rattle.model_text.specs.Arguments.{Argument, Kind, arguments_of, spaced_text, spaced_texts}
 
 -- ---- what is written
 -- arguments
@@ -47,3 +53,41 @@ pub of_four : (call a b c d : Call) (list : List Argument) → (call ≡ a) ⊎ 
     → arguments_of (call_of b) ≡ list → arguments_of (call_of c) ≡ list → arguments_of (call_of d) ≡ list → arguments_of (call_of call) ≡ list
 of_four call a b c d list (inl is) first second third fourth = ap (λ (x : Call). arguments_of (call_of x)) is ∙ first
 of_four call a b c d list (inr more) first second third fourth = of_three call b c d list more second third fourth
+
+-- ---- kinds of a filter
+-- the texts of the kinds from a place on that a filter excludes
+abbrev pub kinds_from : World → Filter → List CallKind → ℕ → List ℕ
+kinds_from w f kinds k = spaced_texts w (map Kind (filter (excludes f) (drop k kinds)))
+
+-- one that it excludes was written
+pub name_put : (w : World) (f : Filter) (kinds : List CallKind) (k : ℕ) (kind : CallKind) (old new : List ℕ) → k < length kinds
+    → kind ≡ get_or kinds k kind → permits f kind ≡ false → Appends old new (32 ∷ call_name kind)
+    → new ++ kinds_from w f kinds (k + 1) ≡ old ++ kinds_from w f kinds k
+name_put w f kinds k kind old new below is excluded put =
+    ap (λ (t : List ℕ). t ++ kinds_from w f kinds (k + 1)) put
+    ∙ append_assoc old (32 ∷ call_name kind) (kinds_from w f kinds (k + 1))
+    ∙ ap (λ (left : List CallKind). old ++ spaced_texts w (map Kind left)) (sym (passing_next (excludes f) kinds k kind below is (held (excludes f kind) excluded)))
+  where
+    held : (b : Bool) → not b ≡ false → b ≡ true
+    held true e = refl
+    held false e = absurd (cc)
+
+-- one that it permits is passed over
+pub name_passed : (w : World) (f : Filter) (kinds : List CallKind) (k : ℕ) (kind : CallKind) (old : List ℕ) → k < length kinds
+    → kind ≡ get_or kinds k kind → permits f kind ≡ true
+    → old ++ kinds_from w f kinds (k + 1) ≡ old ++ kinds_from w f kinds k
+name_passed w f kinds k kind old below is permitted =
+    ap (λ (left : List CallKind). old ++ spaced_texts w (map Kind left)) (sym (failing_next (excludes f) kinds k kind below is (free (excludes f kind) permitted)))
+  where
+    free : (b : Bool) → not b ≡ true → b ≡ false
+    free true e = absurd (cc)
+    free false e = refl
+
+-- after all kinds those that it excludes were written
+pub kinds_put : (w : World) (f : Filter) (kinds : List CallKind) (k : ℕ) (old new : List ℕ) → length kinds ≤ k → kinds ≡ call_kinds
+    → new ++ kinds_from w f kinds k ≡ old ++ spaced_texts w (map Kind (filter (excludes f) kinds))
+    → Appends old new (spaced_texts w (map Kind (excluded_kinds f)))
+kinds_put w f kinds k old new past are all =
+    sym (append-nil new)
+    ∙ ap (λ (left : List CallKind). new ++ spaced_texts w (map Kind (filter (excludes f) left))) (sym (drop_all k kinds past))
+    ∙ all ∙ ap (λ (ks : List CallKind). old ++ spaced_texts w (map Kind (filter (excludes f) ks))) are

@@ -2,36 +2,42 @@
 use Rattle.std.proofs.Common.{◌≡◌, ℕ, suc, ◌+◌, ◌%◌, true, false, List, [], ◌∷◌, length, map, Option, Some, None}
 use Rattle.std.proofs.Common.{Result, Ok, Err, refl, sym, ap, subst, ◌∙◌, arith, inl, inr}
 use Rattle.std.proofs.lemmas.Bool.{eqb-true}
-use Rattle.std.specs.Prelude.{option_map, flat_map}
+use Rattle.std.specs.Prelude.{option_map, flat_map, fold, ok_or}
 use Rattle.std.specs.Result.{result_map_both}
 use Rattle.cm_base.specs.declared.faults.LineFault.{LineFault}
 use Rattle.cm_base.specs.declared.faults.LineFault.TheVariants as fault
+use Rattle.cm_filter.specs.Filters.{Filter, excluding, filter_excluding, no_filter}
 use Rattle.cm_filter.specs.declared.kind.CallKind.{CallKind}
+use Rattle.cm_filter.specs.declared.kind.CallKind.TheVariants as kind
 use Rattle.cm_filter.specs.declared.shape.Shape.{Shape}
-use Rattle.cm_filter.specs.declared.shape.Shape.TheVariants.{Bare, ManyIds, SpaceAndMap}
-use Rattle.cm_filter.specs.Shapes.{Form, ANumber, Just, Ids, Triples, arguments_by, pattern_of, shape_of}
-use Rattle.model_cred.specs.Arguments.{Argument, Id, Number, Space, arguments_of, triple_of}
+use Rattle.cm_filter.specs.declared.shape.Shape.TheVariants.{Bare, ManyIds, ManyKinds, SpaceAndMap}
+use Rattle.cm_filter.specs.Shapes.{Form, ANumber, Just, Ids, Triples, Kinds, arguments_by, pattern_of, shape_of}
+use Rattle.model_cred.specs.Arguments.{Argument, Id, Number, Space, Kind, arguments_of, kinds_in, triple_of}
+use Rattle.model_cred.specs.Call as model
 use Rattle.model_cred.specs.Call.{Call, kind_of}
 use Rattle.model_cred.specs.IdMap.{Extent}
 use Rattle.model_cred.specs.World.{World}
+use Rattle.model_text.proofs.BareCalls.{IsBare, installs_none}
 use Rattle.model_text.proofs.ReadBack.{made_call}
 use Rattle.model_text.specs.Arguments.{takes, form_at, argument_token}
-use Rattle.model_text.specs.Line.{Tokens, arguments_from, argument_before, call_told}
+use Rattle.model_text.specs.Line.{Tokens, arguments_from, argument_before, call_read, call_told}
 use Rattle.model_text.specs.SpaceToken.{space_of_token}
-use Rattle.model_text.specs.Token.{number_token, id_token}
+use Rattle.model_text.specs.Token.{number_token, id_token, kind_token}
 use Rattle.cm_tokens.proofs.Options.{cases_Option}
 use Rattle.cm_script.specs.Lines.{IsTold}
 use Rattle.cm_script.specs.declared.error.LineError.{LineError}
 use Rattle.cm_script.specs.declared.error.LineError.TheVariants as error
 use Rattle.cm_state.specs.Call.{call_of}
-use Rattle.cm_script.specs.Steps.{and_then, and_make, taken, ids_told, extents_told, read_in}
+use Rattle.cm_script.specs.Steps.{and_then, and_make, taken, ids_told, kinds_told, extents_told, read_in}
 
 -- ---- the call
 -- Arguments that are read tell the call of the kind that has them; or the fault of one.
-pub told_call : (w : World) (kind : CallKind) (tokens : Tokens) (arguments : List Argument) (call : Call)
+pub told_call : (w : World) (kind : CallKind) (shape : Shape) (tokens : Tokens) (arguments : List Argument) (call : Call)
+    → shape_of kind ≡ shape → IsBare shape
     → arguments_from w (pattern_of kind) 0 tokens ≡ Ok arguments → kind_of call ≡ kind → arguments_of call ≡ arguments
     → read_in w kind tokens ≡ Ok call
-told_call w kind tokens arguments call read is from = rw (read, made_call kind arguments call is from) refl
+told_call w kind shape tokens arguments call of_shape bare read is from =
+    rw (read, made_call kind arguments call (installs_none kind call (subst IsBare (sym of_shape) bare) is) is from) refl
 
 pub told_fault : (w : World) (kind : CallKind) (tokens : Tokens) (number : ℕ) → arguments_from w (pattern_of kind) 0 tokens ≡ Err number
     → read_in w kind tokens ≡ Err (fault.Argument number)
@@ -121,7 +127,7 @@ unfolding as_ids
 list_call w kind tokens ids call shape told is from =
     let read : arguments_from w Ids 0 tokens ≡ Ok (map Id ids) =
     told_ok (arguments_from w Ids 0 tokens) (map Id ids) (sym (ap (and_make (map Id)) told) ∙ ids_from w 0 tokens) in
-    told_call w kind tokens (map Id ids) call (ap (λ pattern. arguments_from w pattern 0 tokens) (ap arguments_by shape) ∙ read) is from
+    told_call w kind ManyIds tokens (map Id ids) call shape tt (ap (λ pattern. arguments_from w pattern 0 tokens) (ap arguments_by shape) ∙ read) is from
 
 pub list_fault : (w : World) (kind : CallKind) (tokens : Tokens) (why : LineFault) → shape_of kind ≡ ManyIds
     → ids_told 0 tokens ≡ Err why → read_in w kind tokens ≡ Err why
@@ -137,6 +143,67 @@ pub list_untold : {A : Type 0} (show : A → List ℕ) (w : World) (kind : CallK
 list_untold show w kind tokens (error.Bad why) shape told = list_fault w kind tokens why shape told
 list_untold show w kind tokens (error.Limit limit) shape told = told
 list_untold show w kind tokens error.NoMemory shape told = tt
+
+-- ---- kinds
+-- the filter that arguments make with that filter, or the fault of the one that has that number
+as_filter : Filter → Result (List Argument) ℕ → Result Filter LineFault
+as_filter filter (Err n) = Err (fault.Argument n)
+as_filter filter (Ok arguments) = ok_or (option_map (fold excluding filter) (kinds_in arguments)) fault.Count
+
+-- one kind more in front
+kind_before : (filter : Filter) (kind : CallKind) (number : ℕ) (read : Result (List Argument) ℕ)
+    → as_filter (excluding filter kind) read ≡ as_filter filter (argument_before number (Some (Kind kind)) read)
+unfolding as_filter
+kind_before filter kind number (Err n) = refl
+kind_before filter kind number (Ok arguments) = by (kinds_in arguments) where
+  by : (kinds : Option (List CallKind)) → ok_or (option_map (fold excluding (excluding filter kind)) kinds) fault.Count
+      ≡ ok_or (option_map (fold excluding filter) (option_map (λ (more : List CallKind). kind ∷ more) kinds)) fault.Count
+  by None = refl
+  by (Some kinds) = refl
+
+kinds_from : (w : World) (filter : Filter) (place : ℕ) (tokens : Tokens) → kinds_told filter place tokens ≡ as_filter filter (arguments_from w Kinds place tokens)
+unfolding as_filter
+kinds_from w filter place [] = refl
+kinds_from w filter place (t ∷ tokens) = by_first (kind_token t) where
+  by_first : (first : Option CallKind)
+      → and_then (taken first place tokens) (λ (kind : CallKind × Tokens). kinds_told (excluding filter kind.0) (place + 1) tokens)
+      ≡ as_filter filter (argument_before (place + 1) (option_map Kind first) (arguments_from w Kinds (place + 1) tokens))
+  by_first None = refl
+  by_first (Some kind) =
+      kinds_from w (excluding filter kind) (place + 1) tokens ∙ kind_before filter kind (place + 1) (arguments_from w Kinds (place + 1) tokens)
+
+-- the install that they tell
+install_read : (read : Result (List Argument) ℕ) → call_read kind.Install read ≡ and_make model.Install (as_filter no_filter read)
+unfolding as_filter
+install_read (Err n) = refl
+install_read (Ok arguments) = by (kinds_in arguments) where
+  by : (kinds : Option (List CallKind))
+      → ok_or (option_map model.Install (option_map filter_excluding kinds)) fault.Count
+      ≡ and_make model.Install (ok_or (option_map filter_excluding kinds) fault.Count)
+  by None = refl
+  by (Some kinds) = refl
+
+only_install : (k : CallKind) → shape_of k ≡ ManyKinds → k ≡ kind.Install
+only_install kind.Install is = refl
+only_install _ is = absurd (cc)
+
+kinds_read : (w : World) (kind : CallKind) (tokens : Tokens) → shape_of kind ≡ ManyKinds
+    → read_in w kind tokens ≡ and_make model.Install (kinds_told no_filter 0 tokens)
+kinds_read w kind tokens is =
+    ap (λ (k : CallKind). read_in w k tokens) (only_install kind is)
+    ∙ install_read (arguments_from w Kinds 0 tokens) ∙ sym (ap (and_make model.Install) (kinds_from w no_filter 0 tokens))
+
+pub filter_call : (w : World) (kind : CallKind) (tokens : Tokens) (filter : Filter) (call : Call) → shape_of kind ≡ ManyKinds
+    → kinds_told no_filter 0 tokens ≡ Ok filter → call ≡ model.Install filter → read_in w kind tokens ≡ Ok call
+filter_call w kind tokens filter call shape told is =
+    kinds_read w kind tokens shape ∙ ap (and_make model.Install) told ∙ ap (λ (c : Call). Ok c) (sym is)
+
+-- what wasn't read of them
+pub filter_untold : (w : World) (kind : CallKind) (tokens : Tokens) (why : LineError) → shape_of kind ≡ ManyKinds
+    → IsTold (λ (filter : Filter). filter) (Err why) (kinds_told no_filter 0 tokens) → IsTold call_of (Err why) (read_in w kind tokens)
+filter_untold w kind tokens (error.Bad why) shape told = kinds_read w kind tokens shape ∙ ap (and_make model.Install) told
+filter_untold w kind tokens (error.Limit limit) shape told = told
+filter_untold w kind tokens error.NoMemory shape told = tt
 
 -- ---- extents
 -- the extents, as arguments
@@ -213,7 +280,7 @@ module _ (w : World) (kind : CallKind) (tokens : Tokens) (t : List ℕ) (more : 
   map_call space list call spaced told is from =
       let read : arguments_from w Triples 1 more ≡ Ok (flat_map triple_of list) =
       told_ok (arguments_from w Triples 1 more) (flat_map triple_of list) (sym (ap (and_make (flat_map triple_of)) told) ∙ extents_from w 0 more whole) in
-      told_call w kind tokens (Space space ∷ flat_map triple_of list) call (by_map (Ok (flat_map triple_of list)) (Some space) spaced read) is from
+      told_call w kind SpaceAndMap tokens (Space space ∷ flat_map triple_of list) call shape tt (by_map (Ok (flat_map triple_of list)) (Some space) spaced read) is from
 
   pub space_fault : space_of_token w.names t ≡ None → read_in w kind tokens ≡ Err (fault.Argument 1)
   space_fault spaced = told_fault w kind tokens 1 (by_map (arguments_from w Triples 1 more) None spaced refl)

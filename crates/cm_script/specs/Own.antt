@@ -10,7 +10,7 @@ use Rattle.model_cred.specs.World.{World}
 use Rattle.model_text.specs.Arguments.{Argument, Space, File, arguments_of, spaced_text, spaced_texts}
 use Rattle.model_text.specs.SpaceToken.{space_of_token, space_token}
 use Rattle.model_text.specs.Token.{file_text, file_token, is_equals}
-use Rattle.model_text.specs.Written.{IsInRange}
+use Rattle.model_text.specs.Written.{InstallsFilter, IsInRange}
 
 -- bytes above the blank alone
 abbrev pub IsPlain : List ℕ → Type 0
@@ -52,4 +52,5 @@ pub record TakesAll (w : World) (text : List ℕ) (arguments : List Argument) (r
 -- The text is that of the arguments of the call, which is of that kind, and this after them.
 pub record TakesCall (w : World) (kind : CallKind) (text : List ℕ) (call : Call) (rest : List ℕ) : Type 0 where
   pub of_kind : kind_of call ≡ kind
+  pub filter : InstallsFilter call
   pub arguments : TakesAll w text (arguments_of call) rest

@@ -4,6 +4,7 @@ use Rattle.std.specs.Prelude.{ℕ, ◌+◌, List, [], ◌∷◌, Option, Some, N
 use Rattle.std.specs.Result.{result_map_both}
 use Rattle.cm_base.specs.declared.faults.LineFault.{LineFault}
 use Rattle.cm_base.specs.declared.faults.LineFault.TheVariants as fault
+use Rattle.cm_filter.specs.Filters.{Filter, excluding}
 use Rattle.cm_filter.specs.declared.kind.CallKind.{CallKind}
 use Rattle.cm_filter.specs.Shapes.{pattern_of}
 use Rattle.model_cred.specs.Call.{Call}
@@ -11,7 +12,7 @@ use Rattle.model_cred.specs.IdMap.{Extent}
 use Rattle.model_cred.specs.World.{World}
 use Rattle.model_text.specs.Cut.{tokens_of}
 use Rattle.model_text.specs.Line.{Tokens, arguments_from, call_read}
-use Rattle.model_text.specs.Token.{number_token, id_token, is_equals}
+use Rattle.model_text.specs.Token.{number_token, id_token, kind_token, is_equals}
 
 -- ---- the two parts
 -- the tokens before the first `=`
@@ -58,6 +59,12 @@ abbrev pub ids_told : ℕ → Tokens → Result (List ℕ) LineFault
 ids_told place [] = Ok []
 ids_told place (token ∷ tokens) =
     and_then (taken (id_token token) place tokens) (λ id. and_make (λ ids. id.0 ∷ ids) (ids_told (place + 1) tokens))
+
+-- the filter that excludes also the kinds of arguments, the first being that at the place
+abbrev pub kinds_told : Filter → ℕ → Tokens → Result Filter LineFault
+kinds_told filter place [] = Ok filter
+kinds_told filter place (token ∷ tokens) =
+    and_then (taken (kind_token token) place tokens) (λ kind. kinds_told (excluding filter kind.0) (place + 1) tokens)
 
 -- an extent of three numbers, the first being the argument at the place, and the arguments after them
 abbrev pub extent_told : ℕ → Tokens → Result (Extent × Tokens) LineFault

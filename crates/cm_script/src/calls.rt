@@ -13,7 +13,7 @@ ghost use Rattle.model_text.specs.Line.{call_told};
 use crate::arguments::{all_three, argument, both, first, only};
 use crate::error::LineError;
 use crate::files::read_file;
-use crate::lists::{read_extents, read_ids};
+use crate::lists::{read_extents, read_ids, read_kinds};
 use cm_base::LineFault;
 use cm_declared::World;
 use cm_filter::{CallKind, Shape};
@@ -26,7 +26,7 @@ fn takes(shape: Shape, count: u32) -> bool
     ensures { result ≡ takes (arguments_by shape) count }
 {
     match shape {
-        Shape::ManyIds => true,
+        Shape::ManyIds | Shape::ManyKinds => true,
         Shape::SpaceAndMap => count % 3 == 1,
         Shape::ThreeIds | Shape::ThreeSets => count == 3,
         Shape::TwoIds | Shape::SpaceAndWord => count == 2,
@@ -67,6 +67,7 @@ fn read_counted(alloc: Global, kind: CallKind, text: &[u8], w: &World) -> Result
         Shape::TwoIds => read_two(kind, text),
         Shape::ThreeIds => read_three(kind, text),
         Shape::ManyIds => Ok(Call::with_ids(kind, Ids::from_vec(read_ids(alloc, text)?))),
+        Shape::ManyKinds => Ok(Call::with_filter(kind, read_kinds(text)?)),
         Shape::ThreeSets => read_sets(kind, text),
         Shape::OneCap => Ok(Call::with_cap(kind, argument(1, read_cap(only(text)))?)),
         Shape::OneNumber => Ok(Call::with_number(kind, argument(1, read_number(only(text)))?)),

@@ -1,12 +1,15 @@
-// The arguments of the calls that have a list: ids of groups, and triples of numbers of a map. A list is read in one pass.
+// The arguments of the calls that have a list: ids of groups, triples of numbers of a map, and kinds of a filter. A
+// list is read in one pass.
 ghost use Rattle.std.specs.Prelude.{◌≡◌, ◌+◌, ◌<◌, ◌≤◌, IfOk, IfSome, length, option_map};
 ghost use Rattle.cm_script.specs.Lines.{IsTold};
-ghost use Rattle.cm_script.specs.Steps.{arguments_in, and_make, next_told, ids_told, extent_or_end, extents_told};
-ghost use Rattle.model_text.specs.Token.{number_token};
+ghost use Rattle.cm_filter.specs.Filters.{no_filter};
+ghost use Rattle.cm_script.specs.Steps.{arguments_in, and_make, next_told, ids_told, kinds_told, extent_or_end, extents_told};
+ghost use Rattle.model_text.specs.Token.{kind_token, number_token};
 
 use crate::error::LineError;
 use crate::parts::next_argument;
 use cm_base::LineFault;
+use cm_filter::{CallKind, Filter};
 use cm_idmap::Extent;
 use cm_tokens::{read_id, read_number};
 use std::alloc::Global;
@@ -28,6 +31,35 @@ pub(crate) fn read_ids(alloc: Global, text: &[u8]) -> Result<Vec<u32>, LineError
         rest = after;
     }
     Ok(ids)
+}
+
+/// The filter that excludes the calls that all arguments in a text name.
+pub(crate) fn read_kinds(text: &[u8]) -> Result<Filter, LineError>
+    requires { length text.now < 4294967295 }
+    ensures { IsTold (λ filter. filter) result (kinds_told no_filter 0 (arguments_in text.now)) }
+{
+    let mut filter = Filter::none();
+    let mut place = 0;
+    let mut rest = text;
+    while let Some((token, after)) = next_argument(rest) {
+        let Some(kind) = read_kind(token) else {
+            return Err(LineError::Bad(LineFault::Argument(place + 1)));
+        };
+        filter = filter.excluding(kind);
+        place += 1;
+        rest = after;
+    }
+    Ok(filter)
+}
+
+// The kind of the call of that name, where a filter that is installed can exclude it: each but exit (choice).
+fn read_kind(name: &[u8]) -> Option<CallKind>
+    ensures { result ≡ kind_token name.now }
+{
+    match CallKind::from_name(name) {
+        Some(CallKind::Exit) => None,
+        named => named,
+    }
 }
 
 /// The extents of all arguments in a text, which has those from place 1 on.

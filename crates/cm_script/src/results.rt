@@ -2,15 +2,15 @@
 ghost use Rattle.std.specs.Prelude.{◌≡◌, IfSome, option_map};
 ghost use Rattle.cm_base.specs.Names.{errno_of};
 ghost use Rattle.model_text.specs.Line.{result_of_kind};
-ghost use Rattle.model_text.specs.Token.{birth_token, done_token, old_id_token, res_text, result_token};
-ghost use Rattle.model_text.specs.Written.{IsBirth, IsOutcome};
+ghost use Rattle.model_text.specs.Token.{birth_token, done_token, excluded_token, old_id_token, res_text, result_token};
+ghost use Rattle.model_text.specs.Written.{IsBirth, IsOldId, IsOutcome};
 
 use cm_base::{Errno, Res, read_u32};
 use cm_filter::CallKind;
 use cm_tokens::read_pid;
 
-/// The result of a call of that kind: setfsuid and setfsgid tell the id from before, and have no error; births tell their
-/// child's pid; exit has no error either. None where the token is none of these.
+/// The result of a call of that kind: setfsuid and setfsgid tell the id from before, and have no error but EPERM, where
+/// a filter excludes them; births tell their child's pid; exit has no error. None where the token is none of these.
 pub(crate) fn read_result(kind: CallKind, token: &[u8]) -> Option<Res>
     ensures { result ≡ result_of_kind kind token.now }
 {
@@ -27,7 +27,20 @@ fn read_old_id(token: &[u8]) -> Option<Res>
 {
     match read_u32(token) {
         Ok(id) => Some(Res::Id(id)),
-        Err(_) => None,
+        Err(_) => read_excluded(token),
+    }
+}
+
+/// The refusal of a call that the caller's filter excludes. What is read is written so again.
+pub(crate) fn read_excluded(token: &[u8]) -> Option<Res>
+    ensures read { result ≡ excluded_token token.now }
+    ensures written { IfSome result (λ res. res_text res ≡ token.now) }
+    ensures may { IfSome result (λ res. IsOldId res) }
+{
+    if token == Errno::EPERM.name().as_bytes() {
+        Some(Res::Err(Errno::EPERM))
+    } else {
+        None
     }
 }
 

@@ -4,7 +4,9 @@ ghost use Rattle.cm_base.specs.Outcome.{OrNoMemory};
 ghost use Rattle.cm_tokens.specs.Pieces.{Appends};
 ghost use Rattle.cm_state.specs.Call.{call_of};
 ghost use Rattle.cm_declared.specs.World.{world_of};
-ghost use Rattle.model_text.specs.Arguments.{Id, arguments_of, spaced_texts, triple_of};
+ghost use Rattle.cm_filter.specs.Filters.{excluded_kinds};
+ghost use Rattle.cm_filter.specs.Kinds.{call_name};
+ghost use Rattle.model_text.specs.Arguments.{Id, Kind, arguments_of, spaced_texts, triple_of};
 ghost use Rattle.model_text.specs.Hex.{hex_set};
 ghost use Rattle.model_text.specs.Print.{event_text};
 ghost use Rattle.model_text.specs.SpaceToken.{space_token};
@@ -14,6 +16,7 @@ use crate::files::put_file;
 use cm_base::{CAP_COUNT, Cap, CapWord, FileRef, NoMemory, Res, SpaceId};
 use cm_declared::{Names, World, put_space};
 use cm_files::FileTable;
+use cm_filter::{CallKind, Filter};
 use cm_idmap::Extent;
 use cm_state::{Call, Event};
 use cm_tokens::{put, put_decimal, put_hex16, put_id};
@@ -79,6 +82,7 @@ fn put_arguments(text: &mut Vec<u8>, call: &Call, w: &World) -> Result<(), NoMem
             put_word(text, *deny)
         }
         Call::Exec(file) => put_path(text, *file, &w.files),
+        Call::Install(filter) => put_kinds(text, *filter, w),
         Call::AmbClear | Call::Fork | Call::CloneUser | Call::Unshare | Call::Exit => Ok(()),
     }
 }
@@ -182,6 +186,27 @@ fn put_path(text: &mut Vec<u8>, file: FileRef, files: &FileTable) -> Result<(), 
 {
     put(text, b" ")?;
     put_file(text, file, files)
+}
+
+// The names of the kinds that a filter excludes, in their order.
+fn put_kinds(text: &mut Vec<u8>, filter: Filter, w: &World) -> Result<(), NoMemory>
+    ensures { OrNoMemory result (λ _. Appends text.old.items text.new.items (spaced_texts (world_of w.now)
+        (map Kind (excluded_kinds filter)))) }
+{
+    let kinds = CallKind::all();
+    for kind in kinds {
+        if !filter.permits(*kind) {
+            put_name(text, *kind)?;
+        }
+    }
+    Ok(())
+}
+
+fn put_name(text: &mut Vec<u8>, kind: CallKind) -> Result<(), NoMemory>
+    ensures { OrNoMemory result (λ _. Appends text.old.items text.new.items (32 ∷ call_name kind)) }
+{
+    put(text, b" ")?;
+    put(text, kind.name().as_bytes())
 }
 
 /// What a call answered, as the last token of a script line.

@@ -7,7 +7,7 @@ use Rattle.cm_base.specs.declared.faults.LineFault.TheVariants as fault
 use Rattle.cm_tokens.proofs.Options.{cases_Option}
 use Rattle.cm_filter.specs.declared.kind.CallKind.{CallKind}
 use Rattle.cm_filter.specs.declared.shape.Shape.{Shape}
-use Rattle.cm_filter.specs.declared.shape.Shape.TheVariants.{OneId, TwoIds, ThreeIds}
+use Rattle.cm_filter.specs.declared.shape.Shape.TheVariants.{OneId, TwoIds, ThreeIds, ManyKinds}
 use Rattle.cm_filter.specs.Shapes.{Pattern, arguments_by, pattern_of, shape_of}
 use Rattle.cm_strace_calls.specs.Made.{has_ids}
 use Rattle.cm_strace_calls.specs.Readers.{next_read}
@@ -16,6 +16,7 @@ use Rattle.model_cred.specs.Arguments.{Argument, Id, arguments_of, carried_in}
 use Rattle.model_cred.specs.Call.{Call, kind_of}
 use Rattle.model_cred.specs.World.{World}
 use Rattle.model_strace.specs.Calls.{argument_count, ids_call, ids_read}
+use Rattle.model_text.proofs.BareCalls.{IsBare, installs_none}
 use Rattle.model_text.proofs.ReadBack.{made_call}
 use Rattle.model_text.specs.Line.{arguments_from}
 use Rattle.model_text.specs.Token.{id_token}
@@ -152,10 +153,16 @@ pub last_after : (kind : CallKind) (a b : ℕ) (texts : List (List ℕ)) (third 
 last_after kind a b texts third is =
     ap (λ read. then_read read (λ c. made kind (Id a ∷ Id b ∷ Id c.0 ∷ []))) (sym is)
 
+-- shapes of ids carry no filter
+ids_bare : (shape : Shape) → IsTrue (has_ids shape) → IsBare shape
+ids_bare ManyKinds has = absurd (cc)
+ids_bare _ has = tt
+
 -- the call that is made of its own ids
-pub made_is : (kind : CallKind) (ids : List Argument) (call : Call) → kind_of call ≡ kind → arguments_of call ≡ ids
-    → made kind ids ≡ Ok call
-made_is kind ids call is from = rw (made_call kind ids call is from) refl
+pub made_is : (kind : CallKind) (ids : List Argument) (call : Call) → IsTrue (has_ids (shape_of kind)) → kind_of call ≡ kind
+    → arguments_of call ≡ ids → made kind ids ≡ Ok call
+made_is kind ids call has is from =
+    rw (made_call kind ids call (installs_none kind call (ids_bare (shape_of kind) has) is) is from) refl
 
 -- the shape of a kind that has ids, and not one nor two
 pub third : (kind : CallKind) (shape : Shape) → shape ≡ shape_of kind → IsTrue (has_ids (shape_of kind)) → (shape ≡ OneId → ⊥)

@@ -19,6 +19,7 @@ use crate::spaces::Declared;
 use cm_base::{
     Kgid, Kuid, LAST_PID, Limited, NoMemory, Pid, SpaceId, Table as TableName, WorldFault,
 };
+use cm_filter::Filter;
 use cm_state::{Cred, Proc, Procs};
 use cm_values::{
     FiveSets, Key, Kind, LAST_ID, LAST_SECUREBITS, Need, RowError, groups_of, ids_at, items_at,
@@ -191,6 +192,7 @@ fn process_of_row(
         forebear: parent_of_row(row),
         space,
         cred,
+        filter: Filter::none(),
     })
 }
 

@@ -100,6 +100,7 @@ fn first_process(alloc: Global, container: SpaceId) -> Result<Proc, NoMemory>
         forebear: None,
         space: container,
         cred: Box::new(alloc, cred)?,
+        filter: Filter::none(),
     })
 }
 

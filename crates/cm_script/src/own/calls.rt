@@ -9,7 +9,7 @@ ghost use Rattle.cm_state.specs.Call.{call_of};
 ghost use Rattle.model_cred.specs.World as worlds;
 
 use super::arguments::{own_cap, own_file, own_id, own_number, own_set, own_space, own_word};
-use super::lists::{own_extents, own_ids};
+use super::lists::{own_extents, own_ids, own_kinds};
 use super::pieces::take_word;
 use cm_base::CapWord;
 use cm_declared::World;
@@ -75,6 +75,7 @@ pub(crate) fn take_call<'a>(
             let (ids, rest) = own_ids(alloc, text)?;
             Some((Call::with_ids(kind, Ids::from_vec(ids)), rest))
         }
+        Shape::ManyKinds => take_filter(kind, text),
         Shape::ThreeSets => take_sets(kind, text),
         Shape::OneCap => {
             let (cap, rest) = own_cap(text)?;
@@ -119,6 +120,17 @@ fn take_three(kind: CallKind, text: &[u8]) -> Option<(Call, &[u8])>
     let (e, rest) = own_id(rest)?;
     let (s, rest) = own_id(rest)?;
     Some((Call::with_three_ids(kind, r, e, s), rest))
+}
+
+// A call with a filter.
+fn take_filter(kind: CallKind, text: &[u8]) -> Option<(Call, &[u8])>
+    requires { shape_of kind ≡ Shape.ManyKinds }
+    ensures { (w : worlds.World) → IfSome result (λ p. TakesCall w kind text.now (call_of p.0) p.1.now) }
+{
+    match own_kinds(text) {
+        Some((filter, rest)) => Some((Call::with_filter(kind, filter), rest)),
+        None => None,
+    }
 }
 
 // A call with three sets.

@@ -1,11 +1,15 @@
-// The arguments of the calls that have a list, as they are written: ids of groups, and triples of numbers of a map.
-// None says nothing of the text: there may have been no memory for the list.
-ghost use Rattle.std.specs.Prelude.{IfSome, flat_map, map};
-ghost use Rattle.cm_script.specs.Own.{TakesAll};
+// The arguments of the calls that have a list, as they are written: ids of groups, triples of numbers of a map, and
+// kinds of a filter. None says nothing of the text: there may have been no memory for the list.
+ghost use Rattle.std.specs.Prelude.{◌<◌, IfSome, flat_map, length, map};
+ghost use Rattle.cm_filter.specs.Filters.{excluded_kinds, IsFilter};
+ghost use Rattle.cm_script.specs.Own.{Takes, TakesAll};
 ghost use Rattle.model_cred.specs.World as worlds;
-ghost use Rattle.model_text.specs.Arguments.{Id, triple_of};
+ghost use Rattle.model_text.specs.Arguments.{Id, Kind, triple_of};
 
 use super::arguments::{own_id, own_number};
+use super::calls::take_kind;
+use super::pieces::{after_blank, after_piece};
+use cm_filter::{CallKind, Filter};
 use cm_idmap::Extent;
 use std::alloc::Global;
 
@@ -43,4 +47,60 @@ pub(crate) fn own_extents(alloc: Global, text: &[u8]) -> Option<(Vec<Extent>, &[
         rest = after;
     }
     Some((list, rest))
+}
+
+/// The filter whose kinds stand in front of a text, in their order, and what follows them.
+pub(crate) fn own_kinds(text: &[u8]) -> Option<(Filter, &[u8])>
+    ensures taken { (w : worlds.World) → IfSome result (λ p.
+        TakesAll w text.now (map Kind (excluded_kinds p.0)) p.1.now) }
+    ensures filter { IfSome result (λ p. IsFilter p.0) }
+{
+    let filter = named_filter(text);
+    let rest = after_kinds(text, filter)?;
+    Some((filter, rest))
+}
+
+// The filter that excludes the calls of the names in front of a text, in whatever order.
+fn named_filter(text: &[u8]) -> Filter
+    ensures { IsFilter result }
+{
+    let mut filter = Filter::none();
+    let mut rest = text;
+    while let Some((kind, after)) = next_kind(rest) {
+        filter = filter.excluding(kind);
+        rest = after;
+    }
+    filter
+}
+
+// The kind of the name after a blank, and what follows it.
+fn next_kind(text: &[u8]) -> Option<(CallKind, &[u8])>
+    ensures { IfSome result (λ p. length p.1.now < length text.now) }
+{
+    take_kind(after_blank(text)?)
+}
+
+// What follows the names of all kinds that the filter excludes, where these stand in front of a text in their order.
+fn after_kinds(text: &[u8], filter: Filter) -> Option<&[u8]>
+    ensures { (w : worlds.World) → IfSome result (λ rest.
+        TakesAll w text.now (map Kind (excluded_kinds filter)) rest.now) }
+{
+    let kinds = CallKind::all();
+    let mut rest = text;
+    for kind in kinds {
+        if !filter.permits(*kind) {
+            rest = after_kind(rest, *kind)?;
+        }
+    }
+    Some(rest)
+}
+
+// What follows the name of the kind, after a blank. An installed filter doesn't exclude exit.
+fn after_kind(text: &[u8], kind: CallKind) -> Option<&[u8]>
+    ensures { (w : worlds.World) → IfSome result (λ rest. Takes w text.now (Kind kind) rest.now) }
+{
+    match kind {
+        CallKind::Exit => None,
+        _ => after_piece(after_blank(text)?, kind.name().as_bytes()),
+    }
 }

@@ -4,7 +4,7 @@ ghost use Rattle.model_text.specs.Token.{res_text};
 ghost use Rattle.model_text.specs.Written.{IsBirth, IsOldId, IsOutcome, MayAnswer};
 
 use super::numbers::{take_decimal, take_pid};
-use crate::results::read_error;
+use crate::results::{read_error, read_excluded};
 use cm_base::Res;
 use cm_filter::CallKind;
 
@@ -22,15 +22,15 @@ pub(crate) fn own_result(kind: CallKind, text: &[u8]) -> Option<Res>
     }
 }
 
-// The id from before.
+// The id from before, or EPERM.
 #[inline]
 fn own_old_id(text: &[u8]) -> Option<Res>
     ensures written { IfSome result (λ res. res_text res ≡ text.now) }
     ensures may { IfSome result (λ res. IsOldId res) }
 {
-    match take_decimal(text)? {
-        (id, []) => Some(Res::Id(id)),
-        _ => None,
+    match take_decimal(text) {
+        Some((id, [])) => Some(Res::Id(id)),
+        _ => read_excluded(text),
     }
 }
 

@@ -18,5 +18,11 @@ returns-in-Some-clause-text c =
     subst (λ (p : Option Process). OrNoMemory c.put.result (λ _. c.put.new.text.items ≡ c.args.text.now.items ++ text_of (credentials_if w p))) (sym found)
     (rw (sym c.p.view_is, sym c.deref.ensures)
     (closed _ _ _ _
-    (Credentials w (record { pid = c.p.inside.pid; forebear = None; space = c.p.inside.space.0; cred = c.deref.result.now }))
+    (Credentials w (record {
+      pid = c.p.inside.pid;
+      forebear = None;
+      space = c.p.inside.space.0;
+      cred = c.deref.result.now;
+      filter = c.p.inside.filter;
+    }))
     c.put.ensures.text refl))

@@ -11,5 +11,11 @@ returns c =
     rw (sym c.p.view_is, sym c.deref.ensures)
     (closed _ _ _ _
     (Credentials (world_of c.args.w.now)
-    (record { pid = c.p.inside.pid; forebear = None; space = c.p.inside.space.0; cred = c.deref.result.now }))
+    (record {
+      pid = c.p.inside.pid;
+      forebear = None;
+      space = c.p.inside.space.0;
+      cred = c.deref.result.now;
+      filter = c.p.inside.filter;
+    }))
     c.put_credential_line.ensures refl)

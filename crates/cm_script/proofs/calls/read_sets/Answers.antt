@@ -2,6 +2,7 @@ use Rattle.std.proofs.Common.{Some, None, refl, sym, ap, ◌∙◌}
 use Rattle.std.proofs.lemmas.Result.{err_from_is_err_and}
 use Rattle.std.specs.Prelude.{option_map}
 use Rattle.cm_filter.specs.Shapes.{ASet, arguments_by}
+use Rattle.cm_filter.specs.declared.shape.Shape.TheVariants.{ThreeSets}
 use Rattle.cm_script.proofs.Telling.{told_call, is_fault, three_read}
 use Rattle.cm_script.specs.Steps.{arguments_in}
 use Rattle.model_text.specs.Arguments.{Set}
@@ -9,7 +10,7 @@ use Rattle.cm_script.proofs.calls.read_sets.Goals as goal
 
 pub returns : goal.returns
 returns c = λ w.
-    told_call w _ _ _ _ (three_read w _ _ ASet _ _ _ (Some (Set _)) (Some (Set _)) (Some (Set _)) (ap arguments_by c.requires.shape) c.all_three.ensures
+    told_call w _ ThreeSets _ _ _ c.requires.shape tt (three_read w _ _ ASet _ _ _ (Some (Set _)) (Some (Set _)) (Some (Set _)) (ap arguments_by c.requires.shape) c.all_three.ensures
     (ap (option_map Set) (sym c.read_cap_text.ensures ∙ c.in_ok-eff.ensures.stands))
     (ap (option_map Set) (sym c.read_cap_text-2.ensures ∙ c.in_ok-prm.ensures.stands))
     (ap (option_map Set) (sym c.read_cap_text-3.ensures ∙ c.in_ok-inh.ensures.stands)))

@@ -2,6 +2,7 @@ use Rattle.std.proofs.Common.{Some, None, refl, sym, ap, ◌∙◌}
 use Rattle.std.proofs.lemmas.Result.{err_from_is_err_and}
 use Rattle.std.specs.Prelude.{option_map}
 use Rattle.cm_filter.specs.Shapes.{AnId, arguments_by}
+use Rattle.cm_filter.specs.declared.shape.Shape.TheVariants.{TwoIds}
 use Rattle.cm_script.proofs.Telling.{told_call, is_fault, two_read}
 use Rattle.cm_script.specs.Steps.{arguments_in}
 use Rattle.model_text.specs.Arguments.{Id}
@@ -9,7 +10,7 @@ use Rattle.cm_script.proofs.calls.read_two.Goals as goal
 
 pub returns : goal.returns
 returns c = λ w.
-    told_call w _ _ _ _ (two_read w _ _ AnId AnId _ _ (Some (Id _)) (Some (Id _)) (ap arguments_by c.requires.shape) c.both.ensures
+    told_call w _ TwoIds _ _ _ c.requires.shape tt (two_read w _ _ AnId AnId _ _ (Some (Id _)) (Some (Id _)) (ap arguments_by c.requires.shape) c.both.ensures
     (ap (option_map Id) (sym c.read_id.ensures ∙ c.in_ok-r.ensures.stands))
     (ap (option_map Id) (sym c.read_id-2.ensures ∙ c.in_ok-e.ensures.stands)))
     c.with_two_ids.ensures.kind c.with_two_ids.ensures.arguments

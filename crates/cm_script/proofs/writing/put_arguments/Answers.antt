@@ -1,10 +1,11 @@
 use Rattle.std.proofs.Common.{[], ◌∷◌, map, refl, ap}
 use Rattle.std.specs.Prelude.{flat_map}
 use Rattle.cm_declared.specs.World.{world_of}
+use Rattle.cm_filter.specs.Filters.{excluded_kinds}
 use Rattle.cm_script.proofs.Putting.{last_put, more_put, call_put, of_two, of_three, of_four}
 use Rattle.cm_state.specs.Call.{call_of}
 use Rattle.cm_state.specs.declared.call.Call.{Call}
-use Rattle.model_text.specs.Arguments.{Id, Number, Cap, Set, Space, Word, File, arguments_of, triple_of}
+use Rattle.model_text.specs.Arguments.{Id, Number, Cap, Set, Space, Word, File, Kind, arguments_of, triple_of}
 use Rattle.cm_script.proofs.writing.put_arguments.Goals as goal
 
 pub returns-in-SetUid : goal.returns-in-SetUid
@@ -36,6 +37,12 @@ returns-in-Exec c =
     let w = world_of c.args.w.now in
     call_put w (call_of c.args.call.now) (File c.in-Exec.file ∷ []) _ _ _ (ap (λ (call : Call). arguments_of (call_of call)) c.in-Exec.is)
     (last_put w (File c.in-Exec.file) _ _ _ c.put_path.ensures)
+
+pub returns-in-Install : goal.returns-in-Install
+returns-in-Install c =
+    let w = world_of c.args.w.now in
+    call_put w (call_of c.args.call.now) (map Kind (excluded_kinds c.in-Install.filter)) _ _ _
+    (ap (λ (call : Call). arguments_of (call_of call)) c.in-Install.is) c.put_kinds.ensures
 
 pub returns-in_ok-put_argument-in-SetReUid : goal.returns-in_ok-put_argument-in-SetReUid
 returns-in_ok-put_argument-in-SetReUid c =

@@ -19,7 +19,7 @@ returns-in-OneId c = λ w.
     (ap (and_make next_is) (sym c.in_ok-first.was) ∙ c.id.ensures)
     ∙ ap (λ s. ids_after c.args.kind s c.in_ok-first.first (arguments_in c.in_ok-first.left))
     (sym c.shape.ensures ∙ c.in-OneId.is)
-    ∙ made_is c.args.kind _ _ c.with_id.ensures.kind c.with_id.ensures.arguments)
+    ∙ made_is c.args.kind _ _ c.requires c.with_id.ensures.kind c.with_id.ensures.arguments)
 
 pub returns-in_err-second-in-TwoIds : goal.returns-in_err-second-in-TwoIds
 returns-in_err-second-in-TwoIds c = λ w.
@@ -38,7 +38,7 @@ returns-in_ok-second-in-TwoIds c = λ w.
     ∙ two_after c.args.kind c.in_ok-first.first (arguments_in c.in_ok-first.left) _
     (sym c.shape.ensures ∙ c.in-TwoIds.is)
     (ap (and_make next_is) (sym c.in_ok-second-in-TwoIds.was) ∙ c.id-in-TwoIds.ensures)
-    ∙ made_is c.args.kind _ _ c.with_two_ids.ensures.kind c.with_two_ids.ensures.arguments)
+    ∙ made_is c.args.kind _ _ c.requires c.with_two_ids.ensures.kind c.with_two_ids.ensures.arguments)
 
 pub returns-in_err-second-in_default : goal.returns-in_err-second-in_default
 returns-in_err-second-in_default c = λ w.
@@ -73,4 +73,4 @@ returns-in_ok-third-in_default c = λ w.
     ∙ last_after c.args.kind c.in_ok-first.first c.in_ok-second-in_default.second
     (arguments_in c.in_ok-second-in_default.left) _
     (ap (and_make next_is) (sym c.in_ok-third-in_default.was) ∙ c.id-in_default-2.ensures)
-    ∙ made_is c.args.kind _ _ c.with_three_ids.ensures.kind c.with_three_ids.ensures.arguments)
+    ∙ made_is c.args.kind _ _ c.requires c.with_three_ids.ensures.kind c.with_three_ids.ensures.arguments)

@@ -1,0 +1,30 @@
+use Rattle.std.proofs.Common.{◌≡◌, true, false}
+use Rattle.cm_filter.specs.Filters.{permits}
+use Rattle.cm_script.proofs.OwnArguments.{all_taken, kind_passed, kind_taken}
+use Rattle.cm_script.proofs.own.lists.after_kinds.Goals as goal
+use Rattle.cm_script.proofs.own.lists.after_kinds.Goals.{then-not-permits+in_ok-rest, else-not-permits}
+
+pub loop-kind-init : goal.loop-kind-init
+loop-kind-init c = λ w end more. more
+
+pub loop-kind-preserved : goal.loop-kind-preserved
+loop-kind-preserved c = λ w end more.
+    let f = c.args.filter in
+    let kind = c.kind-item.result in
+    elim c.if-not-permits.branch [
+      | then-not-permits+in_ok-rest b ↦
+          let out : permits f kind ≡ false = cc in
+          c.loop-kind.invariant w end
+          (kind_taken w f c.all-kinds.result.now c.loop-kind.kind-index kind c.loop-kind.rest.now b.in_ok-rest.rest.now end
+          c.loop-kind-test.true c.kind-item.is out (b.in_ok-rest.ensures w) (rw b.rest-is at more))
+      | else-not-permits b ↦
+          let may : permits f kind ≡ true = cc in
+          c.loop-kind.invariant w end
+          (kind_passed w f c.all-kinds.result.now c.loop-kind.kind-index kind c.loop-kind.rest.now end
+          c.loop-kind-test.true c.kind-item.is may (rw b.rest-is at more))
+    ]
+
+pub returns : goal.returns
+returns c = λ w.
+    all_taken w c.args.filter c.all-kinds.result.now c.loop-kind.kind-index c.args.text.now c.loop-kind.rest.now
+    c.loop-kind-test.false c.all-kinds.ensures (c.loop-kind.invariant w)
