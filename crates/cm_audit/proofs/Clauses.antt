@@ -4,7 +4,6 @@ use Rattle.std.proofs.lemmas.Option.{slice_get_cases}
 use Rattle.std.specs.Prelude.{◌↔◌, IsTrue}
 use Rattle.cm_audit.specs.Says.{is_yes, is_no, is_undecided, YesIsLeast, NoIsFirst, UndecidedIsBlamed, UndecidedIsBelow}
 use Rattle.cm_audit.specs.Told.{Told, TellsNo, TellsYes, TellsUndecided, verdict_in, IsVerdictOn}
-use Rattle.cm_filter.specs.Filters.{permits}
 use Rattle.model_box.specs.Bounds.{bounds_hold}
 use Rattle.model_box.specs.Files.{FilesFit}
 use Rattle.model_box.specs.Meets.{IsOverStanding}
@@ -15,10 +14,10 @@ use Rattle.model_cred.specs.World.{World}
 use Rattle.model_plans.specs.Firsts.{PidsAscend}
 use Rattle.model_plans.specs.PlanRun.{Found}
 use Rattle.model_run.specs.Never.{NeverHeld}
-use Rattle.model_verdict.proofs.InWorlds.{may_within, no_is_first_run, blame_is_below}
+use Rattle.model_verdict.proofs.InWorlds.{no_is_first_run, blame_is_below}
 use Rattle.model_verdict.proofs.Verdicts.{one_verdict, yes_exactly, yes_is_kept, undecided_exactly, undecided_is_unsettled}
 use Rattle.model_verdict.specs.Blame.{Blame}
-use Rattle.model_verdict.specs.InWorld.{each_may, VerdictIn, ExcludedIn, FoundIn, OpenIn, SettledIn, NoIsFirstRun, BlameIsBelow}
+use Rattle.model_verdict.specs.InWorld.{VerdictIn, ExcludedIn, FoundIn, OpenIn, SettledIn, NoIsFirstRun, BlameIsBelow}
 use Rattle.model_verdict.specs.Least.{Test}
 use Rattle.model_verdict.specs.Verdict.{Verdict, No, Yes, Undecided, AreOne, YesExactly, YesIsKept, OneVerdict, UndecidedExactly, UndecidedIsUnsettled}
 
@@ -47,7 +46,7 @@ module _ (w : World) (s : State) (members : List ℕ) (right : Right) where
   -- two verdicts on one question are one
   one : (x : Told) → IsVerdictOn w s members right x → (u : Verdict) → VerdictIn w s members right u → AreOne (verdict_in x) u
   unfolding OneVerdict
-  one x is u there = one_verdict (each_may w) (permits w.filter) w s members right (verdict_in x) u is.verdict there
+  one x is u there = one_verdict w s members right (verdict_in x) u is.verdict there
 
   -- ---- no
   no_found : (x : Told) → VerdictIn w s members right (verdict_in x) → IsTrue (is_no x) → FoundIn w s members right
@@ -78,7 +77,7 @@ module _ (w : World) (s : State) (members : List ℕ) (right : Right) where
     never_by : (x : Told) → VerdictIn w s members right (verdict_in x) → IsTrue (is_yes x) → NeverHeld w s members right
     unfolding YesIsKept
     never_by (TellsYes rows) there said =
-        yes_is_kept (each_may w) (permits w.filter) w s members right (bounds_hold rows) keeps files standing there
+        yes_is_kept w s members right (bounds_hold rows) keeps files standing there
     never_by (TellsNo found) there said = absurd (cc)
     never_by (TellsUndecided blame rows) there said = absurd (cc)
 
@@ -88,7 +87,7 @@ module _ (w : World) (s : State) (members : List ℕ) (right : Right) where
     yes_excluded : (x : Told) → VerdictIn w s members right (verdict_in x) → IsTrue (is_yes x) → ExcludedIn w s members right
     unfolding YesExactly
     yes_excluded (TellsYes rows) there said =
-        (yes_exactly (each_may w) (permits w.filter) w s members right (may_within w members) keeps files standing).0 (bounds_hold rows, there)
+        (yes_exactly w s members right keeps files standing).0 (bounds_hold rows, there)
     yes_excluded (TellsNo found) there said = absurd (cc)
     yes_excluded (TellsUndecided blame rows) there said = absurd (cc)
 
@@ -98,7 +97,7 @@ module _ (w : World) (s : State) (members : List ℕ) (right : Right) where
       yes_excluded x is.verdict,
       λ excluded.
           let there : (bounds : Test) × VerdictIn w s members right (Yes bounds)
-          = (yes_exactly (each_may w) (permits w.filter) w s members right (may_within w members) keeps files standing).1 excluded in
+          = (yes_exactly w s members right keeps files standing).1 excluded in
           kind_yes x there.0 (one x is (Yes there.0) there.1),
     )
 
@@ -106,7 +105,7 @@ module _ (w : World) (s : State) (members : List ℕ) (right : Right) where
     undecided_open : (x : Told) → VerdictIn w s members right (verdict_in x) → IsTrue (is_undecided x) → OpenIn w s members right
     unfolding UndecidedExactly
     undecided_open (TellsUndecided blame rows) there said =
-        (undecided_exactly (each_may w) (permits w.filter) w s members right keeps).0 (blame, bounds_hold rows, there)
+        (undecided_exactly w s members right keeps).0 (blame, bounds_hold rows, there)
     undecided_open (TellsYes rows) there said = absurd (cc)
     undecided_open (TellsNo found) there said = absurd (cc)
 
@@ -116,14 +115,14 @@ module _ (w : World) (s : State) (members : List ℕ) (right : Right) where
       undecided_open x is.verdict,
       λ it.
           let there : (blame : Blame) × (below : Test) × VerdictIn w s members right (Undecided blame below)
-          = (undecided_exactly (each_may w) (permits w.filter) w s members right keeps).1 it in
+          = (undecided_exactly w s members right keeps).1 it in
           kind_undecided x there.0 there.1 (one x is (Undecided there.0 there.1) there.2),
     )
 
     settled_by : (x : Told) → VerdictIn w s members right (verdict_in x) → SettledIn w s members → is_undecided x ≡ false
     unfolding UndecidedIsUnsettled
     settled_by (TellsUndecided blame rows) there settled =
-        absurd (undecided_is_unsettled (each_may w) (permits w.filter) w s members right blame (bounds_hold rows) keeps there settled)
+        absurd (undecided_is_unsettled w s members right blame (bounds_hold rows) keeps there settled)
     settled_by (TellsYes rows) there settled = refl
     settled_by (TellsNo found) there settled = refl
 

@@ -2,7 +2,6 @@
 use Rattle.std.proofs.Common.{◌≡◌, List, sym, ◌∙◌, ap, ap₂, subst}
 use Rattle.cm_audit.specs.Laws.{VerdictsAreIsolated}
 use Rattle.cm_audit.specs.Told.{Told, TellsNo, TellsYes, TellsUndecided, verdict_in, RowsAreBounds}
-use Rattle.cm_filter.specs.Filters.{permits}
 use Rattle.model_box.specs.Bounds.{BoxRow, bounds_hold}
 use Rattle.model_box.proofs.Worlds.{state_fits}
 use Rattle.model_box.specs.Covers.{StateFits}
@@ -14,7 +13,7 @@ use Rattle.model_verdict.proofs.RowMeanings.{one_meaning_one_list}
 use Rattle.model_verdict.proofs.Verdicts.{one_verdict}
 use Rattle.model_verdict.specs.Alike.{AlikeFamilies, SameVerdict}
 use Rattle.model_verdict.specs.Blame.{Blame}
-use Rattle.model_verdict.specs.InWorld.{each_may, VerdictIn}
+use Rattle.model_verdict.specs.InWorld.{VerdictIn}
 use Rattle.model_verdict.specs.Rows.{AreBounds, OneMeaningOneList}
 use Rattle.model_verdict.specs.Verdict.{AreOne, SaySame, OneVerdict}
 
@@ -38,8 +37,8 @@ unfolding VerdictsAreIsolated AlikeFamilies OneVerdict
 verdicts_are_isolated s t keeps keeps' w root right one other alike is is' =
     let fits : StateFits s = state_fits s keeps in
     let fits' : StateFits t = state_fits t keeps' in
-    let same : SameVerdict (each_may w) (each_may w) (permits w.filter) w s t (family s root) (family t root) right
-    = alike_families (each_may w) (each_may w) (permits w.filter) w s t root right fits fits' alike in
+    let same : SameVerdict w s t (family s root) (family t root) right
+    = alike_families w s t root right fits fits' alike in
     let here : VerdictIn w s (family s root) right (verdict_in other) = (same.verdict (verdict_in other)).1 is'.verdict in
     one_told s.spaces one other is.bounds (subst (λ (spaces : Spaces). RowsAreBounds spaces other) (sym alike.spaces) is'.bounds)
-    (one_verdict (each_may w) (permits w.filter) w s (family s root) right (verdict_in one) (verdict_in other) is.verdict here)
+    (one_verdict w s (family s root) right (verdict_in one) (verdict_in other) is.verdict here)

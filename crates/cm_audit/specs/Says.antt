@@ -1,13 +1,12 @@
 -- What each kind of verdict says.
 use Rattle.std.specs.Prelude.{ℕ, Bool, true, false, List}
 use Rattle.cm_audit.specs.Told.{Told, TellsNo, TellsYes, TellsUndecided}
-use Rattle.cm_filter.specs.Filters.{permits}
 use Rattle.model_box.specs.Bounds.{bounds_hold}
 use Rattle.model_cred.specs.Process.{State}
 use Rattle.model_cred.specs.Right.{Right}
 use Rattle.model_cred.specs.World.{World}
+use Rattle.model_verdict.specs.Decides.{LeastIn}
 use Rattle.model_verdict.specs.InWorld.{BelowIn, BlameIn, FirstRunIn}
-use Rattle.model_verdict.specs.Least.{IsLeast}
 
 -- ---- kinds
 abbrev pub is_yes : Told → Bool
@@ -25,7 +24,7 @@ is_undecided _ = false
 -- ---- what they tell
 -- A yes: the least bounds that are closed and cover the members.
 abbrev pub YesIsLeast : World → State → List ℕ → Told → Type 0
-YesIsLeast w s members (TellsYes rows) = IsLeast (permits w.filter) w.files s members (bounds_hold rows)
+YesIsLeast w s members (TellsYes rows) = LeastIn w s members (bounds_hold rows)
 YesIsLeast w s members _ = Unit {0}
 
 -- A no: the run of the first plan that ends with a holder, a later run, and the least holder.

@@ -7,12 +7,15 @@ ghost use Rattle.cm_base.specs.Outcome.{OrNoMemory};
 ghost use Rattle.model_run.specs.Never.{MountsStand, NeverHeld};
 ghost use Rattle.cm_state.specs.Right.{right_of};
 ghost use Rattle.cm_declared.specs.World.{world_of};
+ghost use Rattle.cm_filter.specs.Filters.{permits};
+ghost use Rattle.cm_maker.specs.Bounded.{IsBounded, IsWritten};
 ghost use Rattle.model_box.specs.Meets.{IsOverStanding};
 ghost use Rattle.model_cred.specs.Process.{is_alive};
 ghost use Rattle.model_plans.specs.Firsts.{PidsAscend};
 ghost use Rattle.model_plans.specs.PlanRun.{first_found};
 ghost use Rattle.model_run.specs.Family.{family};
-ghost use Rattle.model_verdict.specs.InWorld.{each_may, ExcludedIn, FoundIn, OpenIn, SettledIn};
+ghost use Rattle.model_run.specs.Own.{common_filter};
+ghost use Rattle.model_verdict.specs.InWorld.{ExcludedIn, FoundIn, OpenIn, SettledIn};
 
 use crate::{AuditRefusal, Question, Verdict};
 use cm_base::{Limited, NoMemory, Pid};
@@ -21,11 +24,11 @@ use cm_files::see_files;
 use cm_machine::Machine;
 use cm_maker::{Bounded, decide};
 use cm_plans::first_found;
-use cm_state::{Right, Spaces, State, see_state};
+use cm_state::{Right, Spaces, see_state};
 use std::alloc::Global;
 
-/// The verdict on a right of the family of a process: by calls that the world's filter permits, can a member, or any
-/// process that the members start, ever hold it?
+/// The verdict on a right of the family of a process: by calls that the world's filter and their own permit, can a
+/// member, or any process that the members start, ever hold it?
 ///
 /// Refused, in this order: `NoProcess` where the root isn't alive, `NoSpace` where the space that the right names doesn't
 /// stand, `FamilyTooLarge` where the family has more members than the limit; and `NoMemory`. Fewer than 2^31 spaces
@@ -151,7 +154,7 @@ pub fn judge(
             run: found.run,
             holder: found.holder,
         }),
-        None => bounded(alloc, w, &m.state, members, right),
+        None => bounded(alloc, w, m, members, right),
     }
 }
 
@@ -159,17 +162,17 @@ pub fn judge(
 fn bounded(
     alloc: Global,
     w: &World,
-    st: &State,
+    m: &Machine,
     members: &[Pid],
     right: &Right,
 ) -> Result<Verdict, NoMemory>
-    requires few { length st.now.spaces < 2 ^ 31 }
-    requires named { IsOverStanding st.now.spaces (right_of right.now) }
+    requires few { length m.now.state.spaces < 2 ^ 31 }
+    requires named { IsOverStanding m.now.state.spaces (right_of right.now) }
     ensures { OrNoMemory result (λ v.
-        first_found (each_may (world_of w.now)) (world_of w.now) st.now members.now (right_of right.now) ≡ None →
-        IsVerdictOn (world_of w.now) st.now members.now (right_of right.now) (told v)) }
+        first_found (permits w.now.filter) (world_of w.now) m.now.state members.now (right_of right.now) ≡ None →
+        IsVerdictOn (world_of w.now) m.now.state members.now (right_of right.now) (told v)) }
 {
-    match decide(alloc, st, &w.files, w.filter, members, right)? {
+    match decide_in_common(alloc, w, m, members, right)? {
         Bounded::Excludes(b) => Ok(Verdict::Yes(b)),
         Bounded::Blames(x) => Ok(Verdict::Undecided {
             rule: x.rule,
@@ -177,4 +180,28 @@ fn bounded(
             below: x.below,
         }),
     }
+}
+
+// What bounds say of the right, by the filter that is common to the world and the members.
+fn decide_in_common(
+    alloc: Global,
+    w: &World,
+    m: &Machine,
+    members: &[Pid],
+    right: &Right,
+) -> Result<Bounded, NoMemory>
+    requires few { length m.now.state.spaces < 2 ^ 31 }
+    requires named { IsOverStanding m.now.state.spaces (right_of right.now) }
+    ensures decided { OrNoMemory result (IsBounded (permits (common_filter (world_of w.now) m.now.state members.now))
+        w.now.files m.now.state members.now (right_of right.now)) }
+    ensures written { OrNoMemory result (IsWritten m.now.state.spaces) }
+{
+    decide(
+        alloc,
+        &m.state,
+        &w.files,
+        m.common(w, members),
+        members,
+        right,
+    )
 }

@@ -131,6 +131,6 @@ standing same stand = subst (λ (s : State). All (λ p. p.space < length s.space
 
 -- bounds that lack what the start bounds hold in the row of a standing space don't cover the members now
 pub lacks_cover : (s : State) (members : List ℕ) (bounds : Row → Part → ℕ → Type 0) (row : Row)
-    → space_under row < length s.spaces → ¬ HoldsStartAt s members bounds row → ¬ Covers s s members bounds
+    → space_under row < length s.spaces → ¬ HoldsStartAt s members bounds row → ¬ Covers s members s members bounds
 lacks_cover s members bounds row low lacks covers =
     lacks (holds_start s members bounds covers row (lt-ltb (space_under row) (length s.spaces) low))

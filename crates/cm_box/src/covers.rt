@@ -21,8 +21,8 @@ pub fn covers_start(st: &State, members: &[Pid], bounds: &Bounds) -> Option<u32>
     requires few { length st.now.spaces < 2 ^ 31 }
     ensures none { IfNone result (HoldsStart st.now members.now (RowsHold bounds.now)) }
     ensures first { IfSome result (IsFirstLacking st.now members.now (RowsHold bounds.now)) }
-    ensures covers { IfNone result (Covers st.now st.now members.now (RowsHold bounds.now)) }
-    ensures lacks { IfSome result (λ _. Covers st.now st.now members.now (RowsHold bounds.now) → ⊥) }
+    ensures covers { IfNone result (Covers st.now members.now st.now members.now (RowsHold bounds.now)) }
+    ensures lacks { IfSome result (λ _. Covers st.now members.now st.now members.now (RowsHold bounds.now) → ⊥) }
 {
     for row in 0..2 * st.spaces.count() {
         if !start_held(st, members, bounds, Place::of_number(row)) {

@@ -49,5 +49,5 @@ MemberGives s n pid part x =
 
 -- The bounds cover the members now, and are the least that do: they are within all others that a test gives.
 pub record IsLeastCover (s : State) (members : List ℕ) (bounds : Row → Part → ℕ → Type 0) : Type 0 where
-  pub covers : Covers s s members bounds
-  pub least : (other : ℕ → Part → ℕ → Bool) → Covers s s members (tested other) → IsWithin bounds (tested other)
+  pub covers : Covers s members s members bounds
+  pub least : (other : ℕ → Part → ℕ → Bool) → Covers s members s members (tested other) → IsWithin bounds (tested other)

@@ -7,7 +7,7 @@ use Rattle.cm_box.specs.declared.rules.Rule.{Rule}
 use Rattle.cm_cli.proofs.Auditing.{put_as}
 use Rattle.cm_cli.specs.Checking.{checked_of}
 use Rattle.cm_cli.specs.Put.{IsPut}
-use Rattle.cm_filter.specs.Filters.{permits}
+use Rattle.cm_filter.specs.Filters.{Filter, permits}
 use Rattle.cm_sound.specs.Judged as code
 use Rattle.cm_sound.specs.declared.checked.Checked as found
 use Rattle.cm_sound.specs.declared.checked.Checked.TheVariants as found_as
@@ -21,6 +21,7 @@ use Rattle.model_cred.specs.World.{World}
 use Rattle.model_report.specs.Answer.{certificate_report, checked_report}
 use Rattle.model_report.specs.Checked.{Checked, IsChecked, RowsHold}
 use Rattle.model_report_laws.proofs.Judging.{checked_once}
+use Rattle.model_run.specs.Own.{common_filter}
 
 -- What the code's check says of what it found, case by case.
 module _ (w : World) (s : State) (members : List ℕ) (right : Right) (rows : List BoxRow) where
@@ -35,7 +36,9 @@ module _ (w : World) (s : State) (members : List ℕ) (right : Right) (rows : Li
       let here = closed rule y refl in
       record {
         covers = here.covers;
-        first = subst (λ (n : ℕ). IsFirstOpen (permits w.filter) w.files s.spaces (RowsHold rows) (rule_of rule) n)
+        first =
+            let common : Filter = common_filter w s members in
+            subst (λ (n : ℕ). IsFirstOpen (permits common) w.files s.spaces (RowsHold rows) (rule_of rule) n)
             (sym (number_back y)) here.first;
       }
   is_checked (found_as.Meets y) start closed meets holds =

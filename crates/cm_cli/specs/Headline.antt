@@ -11,19 +11,21 @@
 -- Impossible line: that of the first event that is no step from the state which the events before it lead to; the
 -- rules' own answer, or the reason, is printed with it. The rules are the profile of the manual pages that
 -- docs/RULES.md tells, with its marked choices. Later calls: a run of any length from the state at the log's end, each
--- event a step of one who is a member at that point, of a kind that the world's filter permits; the family is the
--- process and all whose forebears reach it, a child of a member comes to it, and who exits goes. However interleaved:
+-- event a step of one who is a member at that point, of a kind that the world's filter permits, and the filters that
+-- the caller has installed or inherited by then; the family is the process and all whose forebears reach it, a child of
+-- a member comes to it, and who exits goes. However interleaved:
 -- an event is one completed call of one process, and their order is free. Let one hold: a member at the run's end holds
 -- the right; the run may be empty, so the present moment is included. The run that no prints is that of the first plan
 -- of the list which ends with a holder, with the least such pid. Invariant of box form: bounds, fifteen sets for each
--- row of a space, that cover the family now and are closed under the fourteen rules for the calls that the filter
--- permits. Meets the right: a row of the bounds has what holding the right takes. Settled family: its members have no
--- capability, in spaces whose maps are written; the filter excludes the calls that make and join spaces; programs give
--- it nothing; and all its members may call the same.
+-- row of a space, that cover the family now and are closed under the fourteen rules for the calls that the world's
+-- filter permits, and the own filter of some member at the log's end. Meets the right: a row of the bounds has what
+-- holding the right takes. Settled family: its members have no capability, in spaces whose maps are written; the
+-- world's filter, or those of all members, exclude the calls that make and join spaces; programs give it nothing; and
+-- all its members have equal filters.
 --
 -- The premises: the shelf tells its bytes; no read or write failed, and memory was found; words, world, log and query
--- are within the grammars and the limits; after the log only the family acts, under the declared filter; and files and
--- mounts stay as declared.
+-- are within the grammars and the limits; after the log only the family acts, under the declared filter and the filters
+-- that they have installed; and files and mounts stay as declared.
 use Rattle.std.specs.Prelude.{◌≡◌, ℕ, Bool, List, Option, IfSome}
 use Rattle.cm_base.specs.declared.status.Status.{Status}
 use Rattle.cm_base.specs.declared.status.Status.TheVariants as answers

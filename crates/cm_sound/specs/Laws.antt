@@ -19,7 +19,7 @@ unfoldable pub StayCovering : Type 0
 StayCovering =
     (w : World) (s : State) (members : List ℕ) (rows : List BoxRow) → Fits w s → EnclosesIn w s members rows
     → (events : List Event) (later : State) (members_then : List ℕ) → LaterRun w s members events later members_then
-    → Covers s later members_then (RowsHold rows)
+    → Covers s members later members_then (RowsHold rows)
 
 -- A world that a text declares, and the state that a log leads to in it, are such that later runs can start from there.
 unfoldable pub FitAfterLog : Type 0

@@ -1,29 +1,35 @@
 // The judgement of a certificate: three tests in their order.
-ghost use Rattle.std.specs.Prelude.{◌≡◌, ℕ, ◌<◌, ◌*◌, ◌^◌, length};
+ghost use Rattle.std.specs.Prelude.{◌≡◌, ℕ, ◌<◌, ◌*◌, ◌^◌, IfNone, IfSome, length};
 ghost use Rattle.cm_box_rows.specs.Members.{IsFirstLacking};
 ghost use Rattle.cm_box_rows.specs.Rows.{RowsHold};
+ghost use Rattle.cm_box.specs.Closing.{IsFirstOpen};
+ghost use Rattle.cm_box.specs.Rules.{rule_of};
 ghost use Rattle.cm_box.specs.declared.rules.Rule.{Rule};
+ghost use Rattle.cm_filter.specs.Filters.{permits};
 ghost use Rattle.cm_sound.specs.Judged.{IsFirstOpenIn, IsFirstMetIn, Excludes};
 ghost use Rattle.cm_sound.specs.Never.{MountsStand, NeverHeld};
 ghost use Rattle.cm_state.specs.Right.{right_of};
 ghost use Rattle.cm_declared.specs.World.{world_of};
+ghost use Rattle.model_box.specs.Closed.{Closed};
 ghost use Rattle.model_box.specs.Meets.{IsOverStanding};
+ghost use Rattle.model_run.specs.Own.{common_filter};
 
 use crate::Checked;
 use cm_base::Pid;
-use cm_box::{Bounds, closed, covers_start, meets};
+use cm_box::{Bounds, Rule, closed, covers_start, meets};
 use cm_declared::World;
 use cm_files::see_files;
 use cm_machine::Machine;
 use cm_state::{Right, see_state};
 
-/// Whether the bounds show that the members never hold the right, by calls that the world's filter permits. The answer
-/// is the first of these, in this order, that stands: `NotStart` with the first row that lacks what the start bounds
-/// hold, `NotClosed` with the first rule and row at which the bounds aren't closed under that filter, `Meets` with the
-/// first row by which they meet the right; else it is `Holds`. Then, after no later list of calls, of any length and in
-/// whatever order the members make them, does a member hold the right, whoever made the bounds. The bounds have two
-/// rows for each space, the spaces that the right and the mounts name stand, and fewer than 2^31 spaces stand. It takes
-/// no memory.
+/// Whether the bounds show that the members never hold the right, by calls that the world's filter and their own
+/// permit. The answer is the first of these, in this order, that stands: `NotStart` with the first row that lacks
+/// what the start bounds hold, `NotClosed` with the first rule and row at which the bounds aren't closed under the
+/// filter that is common to the world and the members, `Meets` with the first row by which they meet the right; else
+/// it is `Holds`. Then, after no later list of calls, of any length and in whatever order the members make them,
+/// installed filters among them, does a member hold the right, whoever made the bounds. The bounds have two rows for
+/// each space, the spaces that the right and the mounts name stand, and fewer than 2^31 spaces stand. It takes no
+/// memory.
 pub fn check(w: &World, m: &Machine, members: &[Pid], right: &Right, b: &Bounds) -> Checked
     requires rows { length b.now ≡ 2 * length m.now.state.spaces }
     requires few { length m.now.state.spaces < 2 ^ 31 }
@@ -44,7 +50,7 @@ pub fn check(w: &World, m: &Machine, members: &[Pid], right: &Right, b: &Bounds)
     see_state(&m.state);
     match covers_start(&m.state, members, b) {
         Some(row) => Checked::NotStart(row),
-        None => match closed(&m.state, &w.files, w.filter, b) {
+        None => match closed_in_common(w, m, members, b) {
             Some((rule, row)) => Checked::NotClosed { rule, row },
             None => match meets(&m.state, b, right) {
                 Some(row) => Checked::Meets(row),
@@ -52,4 +58,18 @@ pub fn check(w: &World, m: &Machine, members: &[Pid], right: &Right, b: &Bounds)
             },
         },
     }
+}
+
+// The first rule and row at which the bounds aren't closed under the filter that is common to the world and the
+// members; None where they are.
+fn closed_in_common(w: &World, m: &Machine, members: &[Pid], b: &Bounds) -> Option<(Rule, u32)>
+    requires rows { length b.now ≡ 2 * length m.now.state.spaces }
+    requires few { length m.now.state.spaces < 2 ^ 31 }
+    ensures none { IfNone result (Closed (permits (common_filter (world_of w.now) m.now.state members.now)) w.now.files
+        m.now.state.spaces (RowsHold b.now)) }
+    ensures first { IfSome result (λ found. IsFirstOpen
+        (permits (common_filter (world_of w.now) m.now.state members.now)) w.now.files m.now.state.spaces (RowsHold b.now)
+        (rule_of found.0) found.1) }
+{
+    closed(&m.state, &w.files, m.common(w, members), b)
 }

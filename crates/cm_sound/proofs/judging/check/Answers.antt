@@ -12,6 +12,6 @@ returns-in-None-meets-clause-never_held c =
     (fits (world_of c.args.w.now) c.args.m.now.state
     (fits_starts c.args.m.now.state (state_fits c.args.m.now.state c.see_state.ensures)) c.see_files.ensures c.requires.mounts)
     c.requires.named (record {
-      encloses = record { covers = c.in-None.ensures.covers; closed = c.in-None-closed.ensures.none };
+      encloses = record { covers = c.in-None.ensures.covers; closed = c.in-None-closed_in_common.ensures.none };
       apart = c.in-None-meets.ensures.none;
     })
