@@ -23,18 +23,18 @@ module _ (w : World) (s : State) (members : List ℕ) (right : Right) (reading r
   next s' = events_confirm w s' (members_after members e.event.pid e.event.call e.event.res) right rest.events rest.ending
 
   -- by what becomes of the event
-  pub by_event : confirm_of w s members right reading ≡ by_outcome w members e next (outcome w s e.event)
+  pub by_event : confirm_of w s members right reading ≡ by_outcome w s members e next (outcome w s e.event)
   by_event = ap (λ (r : Reading). confirm_of w s members right r) is
 
   -- the run goes on with it
-  pub goes_on : (after : State) (members_then : List ℕ) → GoesOn w members e (outcome w s e.event) after members_then
+  pub goes_on : (after : State) (members_then : List ℕ) → GoesOn w s members e (outcome w s e.event) after members_then
       → confirm_of w s members right reading ≡ confirm_of w after members_then right rest
   goes_on after members_then goes =
-      by_event ∙ taken w members e next (outcome w s e.event) after goes.step goes.within goes.member
+      by_event ∙ taken w s members e next (outcome w s e.event) after goes.step goes.within goes.member
       ∙ sym (run_same w right rest.events rest.ending after members_then (members_after members e.event.pid e.event.call e.event.res) goes.they)
 
   -- this is what it comes to
-  pub ends_with : (c : Confirmed) → ((rest : State → Confirmed) → by_outcome w members e rest (outcome w s e.event) ≡ c)
+  pub ends_with : (c : Confirmed) → ((rest : State → Confirmed) → by_outcome w s members e rest (outcome w s e.event) ≡ c)
       → confirm_of w s members right reading ≡ c
   ends_with c ends = by_event ∙ ends next
 

@@ -17,6 +17,7 @@ use Rattle.model_plans.proofs.Holders.{no_holder, holder_is_least}
 use Rattle.model_plans.specs.Firsts.{PidsAscend, NoHolder, HolderIsLeast}
 use Rattle.model_plans.specs.PlanRun.{holder}
 use Rattle.model_run.specs.Later.{is_member, members_with, members_without, members_after}
+use Rattle.model_run.specs.Own.{may_call}
 use Rattle.model_run.specs.Step.{Outcome, Goes, NoProcess, NoSpace, PidInUse, Wrong, outcome}
 use Rattle.model_run.specs.Within.{exceeded}
 use Rattle.model_text.specs.Reading.{Placed, End, AtEnd, Stops}
@@ -87,18 +88,19 @@ pub holder_same : (s : State) (pids : List ℕ) (right : Right) → PidsAscend p
 holder_same s pids right up = least_only s pids right (holder s pids right) (first_least s pids right (holder s pids right) up refl)
 
 -- ---- the run
-for_same : (w : World) (one other : List ℕ) (e : Placed) → SameMembers one other → is_for_members w one e.event ≡ is_for_members w other e.event
-for_same w one other e same = ap (λ (b : Bool). b && permits w.filter (kind_of e.event.call)) (same e.event.pid)
+for_same : (w : World) (s : State) (one other : List ℕ) (e : Placed) → SameMembers one other
+    → is_for_members w s one e.event ≡ is_for_members w s other e.event
+for_same w s one other e same = ap (λ (b : Bool). b && may_call (permits w.filter) s e.event.pid (kind_of e.event.call)) (same e.event.pid)
 
-outcome_same : (w : World) (one other : List ℕ) (e : Placed) (next then_ : State → Confirmed) (become : Outcome) → SameMembers one other
-    → ((s : State) → next s ≡ then_ s) → by_outcome w one e next become ≡ by_outcome w other e then_ become
-outcome_same w one other e next then_ (Goes s) same on =
-    ap (λ (b : Bool). unless_past (exceeded s) (if b then next s else RefusesLine e.line)) (for_same w one other e same)
-    ∙ ap (λ (c : Confirmed). unless_past (exceeded s) (if is_for_members w other e.event then c else RefusesLine e.line)) (on s)
-outcome_same w one other e next then_ NoProcess same on = refl
-outcome_same w one other e next then_ NoSpace same on = refl
-outcome_same w one other e next then_ PidInUse same on = refl
-outcome_same w one other e next then_ (Wrong res) same on = refl
+outcome_same : (w : World) (s : State) (one other : List ℕ) (e : Placed) (next then_ : State → Confirmed) (become : Outcome) → SameMembers one other
+    → ((s' : State) → next s' ≡ then_ s') → by_outcome w s one e next become ≡ by_outcome w s other e then_ become
+outcome_same w s one other e next then_ (Goes s') same on =
+    ap (λ (b : Bool). unless_past (exceeded s') (if b then next s' else RefusesLine e.line)) (for_same w s one other e same)
+    ∙ ap (λ (c : Confirmed). unless_past (exceeded s') (if is_for_members w s other e.event then c else RefusesLine e.line)) (on s')
+outcome_same w s one other e next then_ NoProcess same on = refl
+outcome_same w s one other e next then_ NoSpace same on = refl
+outcome_same w s one other e next then_ PidInUse same on = refl
+outcome_same w s one other e next then_ (Wrong res) same on = refl
 
 ending_same : (s : State) (one other : List ℕ) (right : Right) (ending : End) → SameMembers one other
     → by_ending s one right ending ≡ by_ending s other right ending
@@ -110,6 +112,6 @@ pub run_same : (w : World) (right : Right) (events : List Placed) (ending : End)
 run_same w right [] ending s one other same = ending_same s one other right ending same
 run_same w right (e ∷ events) ending s one other same =
     let after : List ℕ → List ℕ = λ ms. members_after ms e.event.pid e.event.call e.event.res in
-    outcome_same w one other e (λ s'. events_confirm w s' (after one) right events ending) (λ s'. events_confirm w s' (after other) right events ending)
+    outcome_same w s one other e (λ s'. events_confirm w s' (after one) right events ending) (λ s'. events_confirm w s' (after other) right events ending)
     (outcome w s e.event) same
     (λ s'. run_same w right events ending s' (after one) (after other) (after_same one other e.event.pid e.event.call e.event.res same))

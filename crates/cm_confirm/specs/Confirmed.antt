@@ -22,18 +22,20 @@ confirmed_of (code.RefusesLine number) = model.RefusesLine number
 confirmed_of code.RefusesEnd = model.RefusesEnd
 confirmed_of (code.PastLimit l) = model.PastLimit l
 
--- The run goes on with the event, a member's step to the state, within the limits, and then these are members.
-pub record GoesOn (w : World) (members : List ℕ) (e : Placed) (become : Outcome) (after : State) (members_then : List ℕ) : Type 0 where
+-- The run goes on with the event, a member's step from the one state to the other, within the limits, and then these
+-- are members.
+pub record GoesOn (w : World) (before : State) (members : List ℕ) (e : Placed) (become : Outcome)
+    (after : State) (members_then : List ℕ) : Type 0 where
   pub step : become ≡ Goes after
   pub within : IsWithin after
-  pub member : is_for_members w members e.event ≡ true
+  pub member : is_for_members w before members e.event ≡ true
   pub they : SameMembers members_then (members_after members e.event.pid e.event.call e.event.res)
 
 -- The run goes on with the event; or this is what it comes to, whatever would come after it.
-abbrev pub IsTurn : World → List ℕ → Placed → Turn → Outcome → State → List ℕ → Type 0
-IsTurn w members e turn.Goes become after members_then = GoesOn w members e become after members_then
-IsTurn w members e (turn.Ends c) become after members_then =
-    (rest : State → model.Confirmed) → by_outcome w members e rest become ≡ confirmed_of c
+abbrev pub IsTurn : World → State → List ℕ → Placed → Turn → Outcome → State → List ℕ → Type 0
+IsTurn w before members e turn.Goes become after members_then = GoesOn w before members e become after members_then
+IsTurn w before members e (turn.Ends c) become after members_then =
+    (rest : State → model.Confirmed) → by_outcome w before members e rest become ≡ confirmed_of c
 
 -- The run goes on: what it comes to from where it was is what it comes to from there, by what is left; or this is what
 -- it comes to.

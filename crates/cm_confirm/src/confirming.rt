@@ -1,5 +1,5 @@
-// The run, line by line: each of its events is made a step of the machine, and is held against the limits, the members and
-// the world's filter.
+// The run, line by line: each of its events is made a step of the machine, and is held against the limits, the members,
+// the world's filter and their own.
 ghost use Rattle.std.specs.Prelude.{◌≡◌, ◌<◌, ◌≤◌, ◌+◌, ◌^◌, length};
 ghost use Rattle.cm_base.specs.Limited.{limit_number};
 ghost use Rattle.cm_base.specs.Outcome.{OrNoMemory};
@@ -7,13 +7,16 @@ ghost use Rattle.cm_base.specs.declared.limited.Limited.TheVariants as limit;
 ghost use Rattle.cm_confirm.specs.Confirmed.{confirmed_of, ComesTo, IsTurn};
 ghost use Rattle.cm_confirm.specs.Lines.{line_before};
 ghost use Rattle.cm_declared.specs.World.{world_of};
+ghost use Rattle.cm_filter.specs.Filters.{permits};
 ghost use Rattle.cm_lines.specs.Cut.{Cut, ends_by};
 ghost use Rattle.cm_log.specs.Counts.{lines_read};
 ghost use Rattle.cm_log.specs.Left.{left, told_of, told_then, IsScript};
 ghost use Rattle.cm_state.specs.Right.{right_of};
 ghost use Rattle.cm_strace.specs.Answers.{stop_is};
 ghost use Rattle.model_confirm.specs.Confirm.{by_ending, by_stop, confirm_of, is_for_members};
+ghost use Rattle.model_cred.specs.Call.{kind_of};
 ghost use Rattle.model_plans.specs.Firsts.{PidsAscend};
+ghost use Rattle.model_run.specs.Own.{may_call};
 ghost use Rattle.model_run.specs.Step.{outcome};
 ghost use Rattle.model_run.specs.Within.{IsWithin};
 ghost use Rattle.model_text.specs.Reading.{AtEnd, Reading, script_reading};
@@ -28,10 +31,10 @@ use cm_machine::{Machine, StepError};
 use cm_state::{Event, Right, State};
 use std::alloc::Global;
 
-/// What the lines of a run come to, from where the machine is, by these members, whose pids ascend. They are read as a script,
-/// whatever form of log the world declares. For each event the limits come first, then whether it is a member's, whether the
-/// world's filter permits it, and whether it is a step. The state is within the limits of processes and spaces, and the
-/// text has fewer than 2^31 bytes. Its only error is out of memory.
+/// What the lines of a run come to, from where the machine is, by these members, whose pids ascend. They are read as
+/// a script, whatever form of log the world declares. For each event the limits come first, then whether it is a
+/// member's, whether the world's filter and the member's own permit it, and whether it is a step. The state is within
+/// the limits of processes and spaces, and the text has fewer than 2^31 bytes. Its only error is out of memory.
 pub fn confirm(
     alloc: Global,
     w: &World,
@@ -145,15 +148,16 @@ fn take_event(
     event: &Placed,
 ) -> Result<Turn, NoMemory>
     requires within { IsWithin machine.old.state }
-    ensures { OrNoMemory result (λ turn. IsTurn (world_of w.now) members.old event.now turn
+    ensures { OrNoMemory result (λ turn. IsTurn (world_of w.now) machine.old.state members.old event.now turn
         (outcome (world_of w.now) machine.old.state event.now.event) machine.new.state members.new) }
 {
+    let theirs = is_for_members(w, &machine.state, members, &event.event);
     match machine.step(alloc, w, &event.event) {
         Ok(()) => {
             if let Some(limit) = machine.state.exceeded() {
                 return Ok(Turn::Ends(Confirmed::PastLimit(limit)));
             }
-            if !is_for_members(w, members, &event.event) {
+            if !theirs {
                 return Ok(Turn::Ends(Confirmed::RefusesLine(event.line)));
             }
             members.follow(&event.event)?;
@@ -169,11 +173,19 @@ fn take_event(
     }
 }
 
-// The event is a member's, and the world's filter permits its call.
-fn is_for_members(w: &World, members: &Members, e: &Event) -> bool
-    ensures { result ≡ is_for_members (world_of w.now) members.now e.now }
+// The event is a member's, and its call of a kind that the member may call in that state.
+fn is_for_members(w: &World, state: &State, members: &Members, e: &Event) -> bool
+    ensures { result ≡ is_for_members (world_of w.now) state.now members.now e.now }
 {
-    members.has(e.pid) && w.filter.permits(e.call.kind())
+    members.has(e.pid) && may_call(w, state, e)
+}
+
+// The world's filter permits the call, and so does the caller's own in that state.
+fn may_call(w: &World, state: &State, e: &Event) -> bool
+    ensures { result ≡ may_call (permits w.now.filter) state.now e.now.pid (kind_of e.now.call) }
+{
+    let kind = e.call.kind();
+    w.filter.permits(kind) && state.filter_of(e.pid).permits(kind)
 }
 
 // What the run comes to at its end.

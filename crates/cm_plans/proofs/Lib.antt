@@ -15,3 +15,5 @@ pub mod SpecialRows
 pub mod Members
 pub mod Taking
 pub mod Trying
+pub mod Questions
+pub mod Stepping

@@ -1,7 +1,8 @@
 -- What members find, one by one.
-use Rattle.std.proofs.Common.{◌≡◌, ℕ, List, [], ◌∷◌, Option, None, Some, option_map, sym, ap, ◌∙◌}
+use Rattle.std.proofs.Common.{◌≡◌, ℕ, Bool, List, [], ◌∷◌, Option, None, Some, option_map, sym, ap, ◌∙◌}
 use Rattle.std.specs.Option.{option_or}
 use Rattle.cm_filter.specs.Filters.{permits}
+use Rattle.cm_filter.specs.declared.kind.CallKind.{CallKind}
 use Rattle.cm_plans.specs.Finds.{FoundAmongIs}
 use Rattle.cm_plans.specs.Ready.{IsAbout}
 use Rattle.cm_plans.specs.declared.query.Query.{Query}
@@ -13,12 +14,11 @@ use Rattle.model_cred.specs.Process.{State, process_at}
 use Rattle.model_cred.specs.Right.{Right}
 use Rattle.model_cred.specs.World.{World}
 use Rattle.model_plans.specs.Firsts.{WalkFindsTheSame}
-use Rattle.model_plans.specs.Move.{MayCall}
 use Rattle.model_plans.specs.PlanRun.{Found, holder, first_found}
 use Rattle.model_plans.specs.Walk.{found_for, found_among, walked}
 use Rattle.model_plans.proofs.Nested.{walk_finds_the_same}
 
-module _ (permitted : MayCall) (w : World) (s : State) (right : Right) where
+module _ (permitted : CallKind → Bool) (w : World) (s : State) (right : Right) where
   pub among_next : (left rest : List ℕ) (pid : ℕ) (found : Option Found) → left ≡ pid ∷ rest
       → found ≡ found_for permitted w s right pid (process_at s.processes pid)
       → found_among permitted w s right left ≡ option_or found (found_among permitted w s right rest)
@@ -43,8 +43,8 @@ module _ (permitted : MayCall) (w : World) (s : State) (right : Right) where
 
 -- what is found is that of the world and the right that the question is about
 pub found_about : (q : Query) (w : CodeWorld) (s t : State) (right : CodeRight) (members : List ℕ) (found : Option Found) → IsAbout q w t right
-    → FoundAmongIs q s members found → found ≡ found_among (λ pid. permits w.filter) (world_of w) s (right_of right) members
+    → FoundAmongIs q s members found → found ≡ found_among (permits w.filter) (world_of w) s (right_of right) members
 found_about q w s t right members found about is =
     is
-    ∙ ap (λ (world : CodeWorld). found_among (λ pid. permits world.filter) (world_of world) s (right_of q.right.now) members) about.of_world
-    ∙ ap (λ (r : CodeRight). found_among (λ pid. permits w.filter) (world_of w) s (right_of r) members) about.of_right
+    ∙ ap (λ (world : CodeWorld). found_among (permits world.filter) (world_of world) s (right_of q.right.now) members) about.of_world
+    ∙ ap (λ (r : CodeRight). found_among (permits w.filter) (world_of w) s (right_of r) members) about.of_right

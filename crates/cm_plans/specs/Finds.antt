@@ -13,7 +13,7 @@ use Rattle.model_plans.specs.Walk.{found_for, found_among}
 
 -- what the list of plans finds in the world
 abbrev pub found_first : World → State → List ℕ → Right → Option Found
-found_first w s members right = first_found (λ pid. permits w.filter) (world_of w) s members (right_of right)
+found_first w s members right = first_found (permits w.filter) (world_of w) s members (right_of right)
 
 -- the run that it finds
 abbrev pub run_first : World → State → List ℕ → Right → Option (List Event)
@@ -22,10 +22,10 @@ run_first w s members right = option_map (λ found. found.run) (found_first w s 
 -- It is what these members find.
 abbrev pub FoundAmongIs : Query → State → List ℕ → Option Found → Type 0
 FoundAmongIs q s members found =
-    found ≡ found_among (λ pid. permits q.world.now.filter) (world_of q.world.now) s (right_of q.right.now) members
+    found ≡ found_among (permits q.world.now.filter) (world_of q.world.now) s (right_of q.right.now) members
 
 -- It is what the one member finds.
 abbrev pub FoundForIs : Query → State → ℕ → Option Found → Type 0
 FoundForIs q s pid found =
-    found ≡ found_for (λ pid. permits q.world.now.filter) (world_of q.world.now) s (right_of q.right.now) pid
+    found ≡ found_for (permits q.world.now.filter) (world_of q.world.now) s (right_of q.right.now) pid
     (process_at s.processes pid)

@@ -1,15 +1,18 @@
 -- The code's moves and what they rest on, in the words of the definitions.
-use Rattle.std.specs.Prelude.{ℕ, ◌<◌, ◌==◌, find, List, Option, None, Some, length, if◌then◌else◌}
+use Rattle.std.specs.Prelude.{ℕ, ◌<◌, ◌==◌, find, Bool, List, Option, None, Some, length, if◌then◌else◌}
 use Rattle.model_cred.specs.IdMap.{Extent, up}
 use Rattle.model_cred.specs.Space.{Spaces}
 use Rattle.cm_filter.specs.Filters.{permits}
 use Rattle.cm_plans.specs.declared.moves.Move.{Move}
 use Rattle.cm_plans.specs.declared.moves.Move.TheVariants as code
+use Rattle.cm_filter.specs.declared.kind.CallKind.{CallKind}
+use Rattle.cm_plans.specs.declared.query.May.{May}
 use Rattle.cm_plans.specs.declared.query.Query.{Query}
 use Rattle.cm_state.specs.Right.{right_of}
 use Rattle.model_cred.specs.Call.{Call, kind_of}
 use Rattle.model_cred.specs.Call as model_call
 use Rattle.model_plans.specs.Move as model
+use Rattle.model_run.specs.Own.{permitted_under}
 use Rattle.model_plans.specs.Move.{Setting, Seat, becoming_uid, becoming_gid, space_at_seat}
 
 -- the move of the definitions
@@ -22,12 +25,16 @@ move_of code.TakeGroup = model.TakeGroup
 move_of (code.RunFile file) = model.RunFile file
 move_of (code.JoinSpace n) = model.JoinSpace n.0
 
+-- the calls that the member who moves may make: its own filter permits them, and so does the world's
+abbrev pub may_do : May → CallKind → Bool
+may_do may = permitted_under may.own (permits may.world)
+
 -- what plans rest on
 abbrev pub setting : Query → Setting
 setting q = record {
   files = q.world.now.files;
   spaces = q.spaces.now;
-  permitted = permits q.world.now.filter;
+  permitted = may_do q.may;
   right = right_of q.right.now;
 }
 

@@ -18,7 +18,7 @@ pub record PlansLeft : Type 0 where
 -- the run of the first of these plans; none where there is no plan
 abbrev pub run_next : World → State → Right → List Plan → Option (List Event)
 run_next w s right [] = None
-run_next w s right (plan ∷ plans) = Some (plan_run (λ pid. permits w.filter) w s right plan).events
+run_next w s right (plan ∷ plans) = Some (plan_run (permits w.filter) w s right plan).events
 
 -- the plans after the first
 abbrev pub later : List Plan → List Plan

@@ -32,7 +32,7 @@ AreAllOf q s pid plans =
 -- it is the run of the plan
 abbrev pub IsRunOf : Query → State → Plan → List Event → Type 0
 IsRunOf q s plan run =
-    run ≡ (plan_run (λ pid. permits q.world.now.filter) (world_of q.world.now) s (right_of q.right.now) plan).events
+    run ≡ (plan_run (permits q.world.now.filter) (world_of q.world.now) s (right_of q.right.now) plan).events
 
 -- A step along a list of plans gives the run of its first plan, and leaves the later ones; it gives none exactly where
 -- no plan is left.

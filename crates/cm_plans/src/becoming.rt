@@ -1,7 +1,6 @@
 // Becoming an id: the first permitted call that makes an inside id the effective one.
 ghost use Rattle.std.specs.Prelude.{◌≡◌, ◌<◌, option_map, length, find, IfSome};
-ghost use Rattle.cm_filter.specs.Filters.{permits};
-ghost use Rattle.cm_plans.specs.Moves.{setting, becomes_uid, becomes_gid, inside_of, IsOfWalk};
+ghost use Rattle.cm_plans.specs.Moves.{setting, may_do, becomes_uid, becomes_gid, inside_of, IsOfWalk};
 ghost use Rattle.cm_state.specs.Call.{call_of as told};
 ghost use Rattle.model_cred.specs.Call.{kind_of};
 ghost use Rattle.model_cred.specs.IdMap.{up as model_up, extents_of};
@@ -9,10 +8,10 @@ ghost use Rattle.model_cred.specs.Space.{Spaces as ModelSpaces};
 ghost use Rattle.model_plans.specs.Move.{uid_calls, gid_calls};
 
 use crate::moves::if_permitted;
-use crate::query::Query;
+use crate::query::{May, Query};
 use crate::seat::Seat;
 use cm_base::MINUS_ONE;
-use cm_filter::{CallKind, Filter};
+use cm_filter::CallKind;
 use cm_idmap::IdMap;
 use cm_state::Call;
 
@@ -24,7 +23,7 @@ pub(crate) fn becoming_uid(q: &Query<'_>, seat: &Seat, id: Option<u32>) -> Optio
 {
     let s = q.spaces.standing(seat.space);
     match inside(&s.uids, seat.cred.euid.number(), id) {
-        Some(inside) => uid_call(q.world.filter, inside),
+        Some(inside) => uid_call(q.may, inside),
         None => None,
     }
 }
@@ -37,7 +36,7 @@ pub(crate) fn becoming_gid(q: &Query<'_>, seat: &Seat, id: Option<u32>) -> Optio
 {
     let s = q.spaces.standing(seat.space);
     match inside(&s.gids, seat.cred.egid.number(), id) {
-        Some(inside) => gid_call(q.world.filter, inside),
+        Some(inside) => gid_call(q.may, inside),
         None => None,
     }
 }
@@ -63,8 +62,8 @@ pub(crate) fn up(map: &Option<IdMap>, id: u32) -> Option<u32>
 }
 
 // The first permitted call that makes an inside id the effective user id.
-fn uid_call(f: Filter, id: u32) -> Option<Call>
-    ensures call { option_map told result ≡ find (λ c. permits f (kind_of c)) (uid_calls id) }
+fn uid_call(f: May, id: u32) -> Option<Call>
+    ensures call { option_map told result ≡ find (λ c. may_do f (kind_of c)) (uid_calls id) }
     ensures walks { (spaces : ModelSpaces) → IfSome result (λ call. IsOfWalk spaces (told call)) }
 {
     if f.permits(CallKind::SetResUid) {
@@ -77,8 +76,8 @@ fn uid_call(f: Filter, id: u32) -> Option<Call>
 }
 
 // The first permitted call that makes an inside id the effective group id.
-fn gid_call(f: Filter, id: u32) -> Option<Call>
-    ensures call { option_map told result ≡ find (λ c. permits f (kind_of c)) (gid_calls id) }
+fn gid_call(f: May, id: u32) -> Option<Call>
+    ensures call { option_map told result ≡ find (λ c. may_do f (kind_of c)) (gid_calls id) }
     ensures walks { (spaces : ModelSpaces) → IfSome result (λ call. IsOfWalk spaces (told call)) }
 {
     if f.permits(CallKind::SetResGid) {

@@ -2,7 +2,7 @@
 ghost use Rattle.std.specs.Prelude.{◌≡◌, ◌<◌, [], Vec, OnErr, option_map, length, true, false};
 ghost use Rattle.cm_base.specs.Outcome.{OrNoMemory};
 ghost use Rattle.cm_plans.specs.Cursors.{all_left, moves_left};
-ghost use Rattle.cm_plans.specs.Ready.{IsReady};
+ghost use Rattle.cm_plans.specs.Ready.{IsReady, IsSameQuestion};
 ghost use Rattle.cm_plans.specs.Turns.{Steps, TurnStands, left_in};
 ghost use Rattle.cm_state.specs.Right.{right_of};
 ghost use Rattle.model_cred.specs.Call.{Event};
@@ -24,18 +24,19 @@ pub struct Cursor {
 // The run of the next plan, if one is left.
 pub(crate) fn step(
     alloc: Global,
-    q: &Query<'_>,
+    q: &mut Query<'_>,
     st: &State,
     members: &[Pid],
     at: &mut Cursor,
 ) -> Result<Option<Vec<Event>>, NoMemory>
-    requires ready { IsReady q.now }
-    requires same { q.now.spaces.now ≡ st.now.spaces }
-    requires stand { TurnStands q.now.spaces.now at.old.turn }
-    ensures steps { OrNoMemory result (λ run. Steps q.now st.now (all_left q.now st.now members.now at.old)
-        (option_map (λ (r : Vec Event Global). r.items) run) (all_left q.now st.now members.now at.new)) }
-    ensures same { OnErr result (all_left q.now st.now members.now at.new ≡ all_left q.now st.now members.now at.old) }
-    ensures stand { TurnStands q.now.spaces.now at.new.turn }
+    requires ready { IsReady q.old }
+    requires same { q.old.spaces.now ≡ st.now.spaces }
+    requires stand { TurnStands q.old.spaces.now at.old.turn }
+    ensures steps { OrNoMemory result (λ run. Steps q.old st.now (all_left q.old st.now members.now at.old)
+        (option_map (λ (r : Vec Event Global). r.items) run) (all_left q.old st.now members.now at.new)) }
+    ensures same { OnErr result (all_left q.old st.now members.now at.new ≡ all_left q.old st.now members.now at.old) }
+    ensures stand { TurnStands q.old.spaces.now at.new.turn }
+    ensures question { IsSameQuestion q.old q.new }
 {
     if !at.begun {
         at.begun = true;

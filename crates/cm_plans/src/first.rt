@@ -1,11 +1,13 @@
 // The first plan that ends with a holder.
-ghost use Rattle.std.specs.Prelude.{◌≡◌, ◌++◌, ◌∷◌, [], Vec, length, option_map};
+ghost use Rattle.std.specs.Prelude.{◌≡◌, ◌<◌, ◌++◌, ◌∷◌, [], Vec, length, option_map};
 ghost use Rattle.cm_base.specs.Outcome.{OrNoMemory};
 ghost use Rattle.cm_plans.specs.Finds.{found_first, run_first, FoundForIs, FoundAmongIs};
-ghost use Rattle.cm_plans.specs.Ready.{IsReady};
+ghost use Rattle.cm_plans.specs.Moves.{setting};
+ghost use Rattle.cm_plans.specs.Ready.{IsFor, IsReady, IsSameQuestion};
 ghost use Rattle.cm_state.specs.Right.{right_of};
 ghost use Rattle.model_cred.specs.Call.{Event};
 ghost use Rattle.model_plans.specs.PlanRun.{holder as model_holder};
+ghost use Rattle.model_plans.specs.Walk.{found_at};
 
 use crate::middles::single_list;
 use crate::query::Query;
@@ -77,8 +79,8 @@ pub fn first_found(
             holder: pid,
         })),
         None => {
-            let q = Query::new(alloc, w, st, right)?;
-            found_among(alloc, &q, st, members)
+            let mut q = Query::new(alloc, w, st, right)?;
+            found_among(alloc, &mut q, st, members)
         }
     }
 }
@@ -98,13 +100,13 @@ pub fn first_holder(st: &State, members: &[Pid], right: &Right) -> Option<Pid>
 // What is found by the first member that finds something.
 fn found_among(
     alloc: Global,
-    q: &Query<'_>,
+    q: &mut Query<'_>,
     st: &State,
     members: &[Pid],
 ) -> Result<Option<Found>, NoMemory>
-    requires ready { IsReady q.now }
-    requires same { q.now.spaces.now ≡ st.now.spaces }
-    ensures { OrNoMemory result (FoundAmongIs q.now st.now members.now) }
+    requires ready { IsReady q.old }
+    requires same { q.old.spaces.now ≡ st.now.spaces }
+    ensures { OrNoMemory result (FoundAmongIs q.old st.now members.now) }
 {
     for pid in members {
         match found_for(alloc, q, st, *pid)? {
@@ -116,18 +118,49 @@ fn found_among(
 }
 
 // What is found by one member.
-fn found_for(alloc: Global, q: &Query<'_>, st: &State, pid: Pid) -> Result<Option<Found>, NoMemory>
+fn found_for(
+    alloc: Global,
+    q: &mut Query<'_>,
+    st: &State,
+    pid: Pid,
+) -> Result<Option<Found>, NoMemory>
+    requires ready { IsReady q.old }
+    requires same { q.old.spaces.now ≡ st.now.spaces }
+    ensures found { OrNoMemory result (FoundForIs q.old st.now pid) }
+    ensures question { IsSameQuestion q.old q.new }
+{
+    q.let_move(st, pid);
+    found_by(alloc, q, st, pid)
+}
+
+// The same where the question is for that member.
+fn found_by(alloc: Global, q: &Query<'_>, st: &State, pid: Pid) -> Result<Option<Found>, NoMemory>
     requires ready { IsReady q.now }
     requires same { q.now.spaces.now ≡ st.now.spaces }
+    requires moves { IsFor q.now st.now pid }
     ensures { OrNoMemory result (FoundForIs q.now st.now pid) }
 {
-    let Some(mut seat) = Seat::of(alloc, st, pid)? else {
-        return Ok(None);
-    };
+    match Seat::of(alloc, st, pid)? {
+        Some(mut seat) => found_on(alloc, q, pid, &mut seat),
+        None => Ok(None),
+    }
+}
+
+// What is found by a member on its seat.
+fn found_on(
+    alloc: Global,
+    q: &Query<'_>,
+    pid: Pid,
+    seat: &mut Seat,
+) -> Result<Option<Found>, NoMemory>
+    requires ready { IsReady q.now }
+    requires stands { seat.old.space < length q.now.spaces.now }
+    ensures { OrNoMemory result (λ found. found ≡ found_at (setting q.now) pid seat.old) }
+{
     let singles = single_list(alloc, q, seat.space)?;
-    match find_moves(alloc, q, &mut seat, &singles) {
+    match find_moves(alloc, q, seat, &singles) {
         Some(choices) => {
-            let run = run_of(alloc, q, pid, &mut seat, choices)?;
+            let run = run_of(alloc, q, pid, seat, choices)?;
             Ok(Some(Found { run, holder: pid }))
         }
         None => Ok(None),

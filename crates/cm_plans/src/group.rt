@@ -21,9 +21,7 @@ pub(crate) fn takes_group(q: &Query<'_>, seat: &Seat, id: Kgid) -> bool
     match &s.gids {
         Some(map) => match map.up(id.number()) {
             Some(inside) => {
-                q.world.filter.permits(CallKind::SetGroups)
-                    && !s.deny
-                    && is_id(map.down(inside), id)
+                q.may.permits(CallKind::SetGroups) && !s.deny && is_id(map.down(inside), id)
             }
             None => false,
         },

@@ -51,6 +51,6 @@ impl<'a> Plans<'a> {
         ensures later { OrNoMemory result (λ _. self.new ≡ record self.old { left = later self.old.left }) }
         ensures unchanged { UnchangedOnErr result self.new self.old }
     {
-        step(alloc, &self.q, self.st, self.members, &mut self.at)
+        step(alloc, &mut self.q, self.st, self.members, &mut self.at)
     }
 }

@@ -1,7 +1,6 @@
 // The moves of plans, and the call of each at its moment.
 ghost use Rattle.std.specs.Prelude.{◌≡◌, ◌∷◌, [], ◌<◌, option_map, length, find, IfSome};
-ghost use Rattle.cm_filter.specs.Filters.{permits};
-ghost use Rattle.cm_plans.specs.Moves.{setting, move_of, IsOfWalk, IsMoveOfWalk};
+ghost use Rattle.cm_plans.specs.Moves.{setting, may_do, move_of, IsOfWalk, IsMoveOfWalk};
 ghost use Rattle.cm_plans.specs.Ready.{IsReady};
 ghost use Rattle.cm_plans.specs.declared.moves.Move.TheVariants as move;
 ghost use Rattle.cm_state.specs.Call.{call_of as told};
@@ -10,10 +9,10 @@ ghost use Rattle.model_cred.specs.Call.{kind_of};
 ghost use Rattle.model_plans.specs.Move.{call_of, sought_gid};
 
 use crate::becoming::{becoming_gid, becoming_uid};
-use crate::query::Query;
+use crate::query::{May, Query};
 use crate::seat::Seat;
 use cm_base::{FileRef, SpaceId};
-use cm_filter::{CallKind, Filter};
+use cm_filter::CallKind;
 use cm_state::{Call, Right};
 
 // What a member tries next: at most one call.
@@ -42,15 +41,15 @@ pub(crate) fn call_for(q: &Query<'_>, seat: &Seat, m: Move) -> Option<Call>
         Move::BecomeSought => becoming_uid(q, seat, q.way(seat.space).sought),
         Move::BecomeGroup => becoming_gid(q, seat, sought_group(q.right)),
         Move::TakeGroup => None,
-        Move::RunFile(f) => if_permitted(q.world.filter, CallKind::Exec, Call::Exec(f)),
-        Move::JoinSpace(n) => if_permitted(q.world.filter, CallKind::SetNs, Call::SetNs(n)),
+        Move::RunFile(f) => if_permitted(q.may, CallKind::Exec, Call::Exec(f)),
+        Move::JoinSpace(n) => if_permitted(q.may, CallKind::SetNs, Call::SetNs(n)),
     }
 }
 
 // The call, if its kind is permitted.
-pub(crate) fn if_permitted(f: Filter, kind: CallKind, call: Call) -> Option<Call>
+pub(crate) fn if_permitted(f: May, kind: CallKind, call: Call) -> Option<Call>
     requires { kind ≡ kind_of (told call) }
-    ensures call { option_map told result ≡ find (λ c. permits f (kind_of c)) (told call ∷ []) }
+    ensures call { option_map told result ≡ find (λ c. may_do f (kind_of c)) (told call ∷ []) }
     ensures same { IfSome result (λ c. c ≡ call) }
 {
     if f.permits(kind) { Some(call) } else { None }
@@ -70,7 +69,7 @@ fn raising(q: &Query<'_>, seat: &Seat) -> Option<Call>
         prm: c.prm,
         inh: c.inh,
     };
-    if_permitted(q.world.filter, CallKind::CapSet, call)
+    if_permitted(q.may, CallKind::CapSet, call)
 }
 
 // The group id that is sought.

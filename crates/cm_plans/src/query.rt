@@ -1,19 +1,37 @@
 // What plans rest on and leave as it is.
+ghost use Rattle.cm_plans.specs.Moves.{may_do};
 ghost use Rattle.std.specs.Prelude.{◌≡◌, ◌<◌, length};
 ghost use Rattle.cm_base.specs.Outcome.{OrNoMemory};
-ghost use Rattle.cm_plans.specs.Ready.{IsReady, IsAbout};
+ghost use Rattle.cm_plans.specs.Ready.{IsReady, IsAbout, IsFor, IsSameQuestion};
 ghost use Rattle.cm_plans.specs.Ways.{way_of};
 ghost use Rattle.cm_state.specs.Right.{right_of};
 
 use crate::special::special_rows;
 use crate::ways::{Way, ways_to};
-use cm_base::{NoMemory, SpaceId};
+use cm_base::{NoMemory, Pid, SpaceId};
 use cm_declared::World;
+use cm_filter::{CallKind, Filter};
 use cm_state::{Right, Spaces, State, see_state};
 use std::alloc::Global;
 
-// The declared files and the calls that the filter permits, the spaces, and the right that is sought; and what is
-// worked out of these once: how each space lies to the right, and which rows are tried in pairs.
+// What a member may call: its own filter permits it, and so does the world's.
+#[derive(Clone, Copy, Debug)]
+pub struct May {
+    pub world: Filter,
+    pub own: Filter,
+}
+
+impl May {
+    // It may make calls of the kind.
+    pub(crate) fn permits(self, k: CallKind) -> bool
+        ensures { result ≡ may_do self k }
+    {
+        self.world.permits(k) && self.own.permits(k)
+    }
+}
+
+// The declared files, the spaces, and the right that is sought; what is worked out of these once: how each space lies to
+// the right, and which rows are tried in pairs; and what the member who moves may call.
 #[derive(Debug, Drop)]
 pub struct Query<'a> {
     pub world: &'a World,
@@ -21,6 +39,7 @@ pub struct Query<'a> {
     pub right: &'a Right,
     pub ways: Vec<Way>,
     pub special: Vec<u32>,
+    pub may: May,
 }
 
 impl<'a> Query<'a> {
@@ -44,7 +63,22 @@ impl<'a> Query<'a> {
             right,
             ways,
             special,
+            may: May {
+                world: world.filter,
+                own: Filter::none(),
+            },
         })
+    }
+
+    // Another member moves, in that state.
+    pub(crate) fn let_move(&mut self, st: &State, pid: Pid)
+        ensures moves { IsFor self.new st.now pid }
+        ensures same { IsSameQuestion self.old self.new }
+    {
+        self.may = May {
+            world: self.world.filter,
+            own: st.filter_of(pid),
+        };
     }
 
     // How the space lies to the right.

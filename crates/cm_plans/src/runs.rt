@@ -145,7 +145,7 @@ fn put_group(
     let Some(inside) = up(&s.gids, id) else {
         return Ok(());
     };
-    if !q.world.filter.permits(CallKind::SetGroups) {
+    if !q.may.permits(CallKind::SetGroups) {
         return Ok(());
     }
     let mut list = Vec::new(alloc);

@@ -3,7 +3,7 @@ ghost use Rattle.std.specs.Prelude.{◌≡◌, Vec, map, option_map};
 ghost use Rattle.cm_base.specs.Outcome.{OrNoMemory, UnchangedOnErr};
 ghost use Rattle.cm_plans.specs.Choices.{choice_of, IsChoiceOfRun, IsChoiceOfWalk};
 ghost use Rattle.cm_plans.specs.Left.{StandsIn, with_firsts};
-ghost use Rattle.cm_plans.specs.Ready.{IsReady};
+ghost use Rattle.cm_plans.specs.Ready.{IsFor, IsReady, IsSameQuestion};
 ghost use Rattle.cm_plans.specs.Turns.{AreAllOf, IsRunOf, Steps, TurnStands, left_in};
 ghost use Rattle.cm_state.specs.Right.{right_of};
 ghost use Rattle.model_cred.specs.Call.{Event};
@@ -74,6 +74,7 @@ fn run_for(
 ) -> Result<Vec<Event>, NoMemory>
     requires ready { IsReady q.now }
     requires same { q.now.spaces.now ≡ st.now.spaces }
+    requires moves { IsFor q.now st.now pid }
     requires first { IsChoiceOfRun q.now.spaces.now c.0 }
     requires middle { IsChoiceOfRun q.now.spaces.now c.1 }
     requires last { IsChoiceOfRun q.now.spaces.now c.2 }
@@ -89,12 +90,33 @@ fn run_for(
 // The run of the next plan of the turn, if one is left.
 pub(crate) fn run_next(
     alloc: Global,
+    q: &mut Query<'_>,
+    st: &State,
+    t: &mut Turn,
+) -> Result<Option<Vec<Event>>, NoMemory>
+    requires ready { IsReady q.old }
+    requires same { q.old.spaces.now ≡ st.now.spaces }
+    requires stand { TurnStands q.old.spaces.now t.old }
+    ensures steps { OrNoMemory result (λ run. Steps q.old st.now (left_in (right_of q.old.right.now) t.old)
+        (option_map (λ (r : Vec Event Global). r.items) run) (left_in (right_of q.old.right.now) t.new)) }
+    ensures unchanged { UnchangedOnErr result t.new t.old }
+    ensures stand { TurnStands q.old.spaces.now t.new }
+    ensures question { IsSameQuestion q.old q.new }
+{
+    q.let_move(st, t.pid);
+    next_of_turn(alloc, q, st, t)
+}
+
+// The same where the question is for the member whose turn it is.
+fn next_of_turn(
+    alloc: Global,
     q: &Query<'_>,
     st: &State,
     t: &mut Turn,
 ) -> Result<Option<Vec<Event>>, NoMemory>
     requires ready { IsReady q.now }
     requires same { q.now.spaces.now ≡ st.now.spaces }
+    requires moves { IsFor q.now st.now t.old.pid }
     requires stand { TurnStands q.now.spaces.now t.old }
     ensures steps { OrNoMemory result (λ run. Steps q.now st.now (left_in (right_of q.now.right.now) t.old)
         (option_map (λ (r : Vec Event Global). r.items) run) (left_in (right_of q.now.right.now) t.new)) }
