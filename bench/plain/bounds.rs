@@ -245,7 +245,7 @@ fn start(m: &Machine) -> Vec<Row> {
     let least = Row { n: true, ..Row::default() };
     let row = |s: &Space| Row { mu: outsides(&s.uids), mg: outsides(&s.gids), ..least.clone() };
     let mut rows: Vec<Row> = m.spaces.iter().flat_map(|s| [row(s), least.clone()]).collect();
-    for (_, Proc { space, cred: c, groups }) in m.procs.all() {
+    for (_, Proc { space, cred: c, groups, .. }) in m.procs.all() {
         let row = &mut rows[2 * *space as usize];
         let put = |set: &mut Ids, ids: &[u32]| ids.iter().for_each(|id| join(set, &[(*id, *id)]));
         put(&mut row.u, &c.uid[..3]);

@@ -5,11 +5,14 @@ use crate::space::Side;
 use crate::world::{is_path, World};
 
 /// The names of all calls, as a filter may have them. The replay knows those of `Call`.
-pub const CALLS: [&[u8]; 26] = [
+pub const CALLS: [&[u8]; 27] = [
     b"setuid", b"setreuid", b"setresuid", b"setfsuid", b"setgid", b"setregid", b"setresgid", b"setfsgid", b"setgroups",
     b"capset", b"bset_drop", b"amb_raise", b"amb_lower", b"amb_clear", b"securebits", b"keepcaps", b"no_new_privs", b"fork",
     b"clone_user", b"unshare", b"setns", b"write_uid_map", b"write_gid_map", b"write_setgroups", b"execve", b"exit",
+    b"install",
 ];
+/// The place of exit in `CALLS`, which no filter that is installed excludes.
+const EXIT: usize = 25;
 
 pub const CAPS: [&str; 41] = [
     "CHOWN", "DAC_OVERRIDE", "DAC_READ_SEARCH", "FOWNER", "FSETID", "KILL", "SETGID", "SETUID", "SETPCAP",
@@ -46,6 +49,7 @@ pub enum Call {
     WriteSetgroups(u32, bool),
     Exec(u32),
     Exit,
+    Install(u32), // a bit for each of `CALLS`
     SetReUid([u32; 2]),
     SetFsUid(u32),
     SetGid(u32),
@@ -60,6 +64,39 @@ pub enum Call {
     AmbClear,
     SecureBits(u32),
     KeepCaps(u32),
+}
+
+/// The place of the call's kind in `CALLS`.
+pub fn kind(call: Call) -> usize {
+    match call {
+        Call::SetUid(_) => 0,
+        Call::SetReUid(_) => 1,
+        Call::SetResUid(_) => 2,
+        Call::SetFsUid(_) => 3,
+        Call::SetGid(_) => 4,
+        Call::SetReGid(_) => 5,
+        Call::SetResGid(_) => 6,
+        Call::SetFsGid(_) => 7,
+        Call::SetGroups => 8,
+        Call::CapSet => 9,
+        Call::BsetDrop(_) => 10,
+        Call::AmbRaise(_) => 11,
+        Call::AmbLower(_) => 12,
+        Call::AmbClear => 13,
+        Call::SecureBits(_) => 14,
+        Call::KeepCaps(_) => 15,
+        Call::NoNewPrivs(_) => 16,
+        Call::Fork => 17,
+        Call::CloneUser => 18,
+        Call::Unshare => 19,
+        Call::SetNs(_) => 20,
+        Call::WriteMap(Side::Users, _) => 21,
+        Call::WriteMap(Side::Groups, _) => 22,
+        Call::WriteSetgroups(..) => 23,
+        Call::Exec(_) => 24,
+        Call::Exit => EXIT,
+        Call::Install(_) => 26,
+    }
 }
 
 /// What stands beside an event: the lines of a written map; the ids of setgroups; the sets of capset (effective, permitted,
@@ -134,6 +171,16 @@ fn extents(line: &[u8], count: usize, list: &mut Vec<Extent>) -> Result<(), Stri
     Ok(())
 }
 
+/// The filter that excludes the calls of the names: the tokens of the line from its third on, up to the last two.
+fn filter(line: &[u8], count: usize) -> Result<u32, String> {
+    let mut set = 0;
+    for (i, t) in tokens(line).skip(2).take(count).enumerate() {
+        let at = CALLS.iter().position(|name| *name == t).filter(|at| *at != EXIT);
+        set |= 1 << at.ok_or_else(|| format!("argument {}", i + 1))?;
+    }
+    Ok(set)
+}
+
 fn result(call: Call, r: &[u8]) -> Option<Res> {
     let err = if r.first() == Some(&b'E') { ERRNOS.iter().find(|e| e.as_bytes() == r) } else { None };
     match (call, err) {
@@ -176,14 +223,19 @@ pub fn parse(line: &[u8], w: &World, lists: &mut Lists) -> Result<Option<Event>,
         b"setresuid" => 3,
         b"write_setgroups" => 2,
         b"setuid" | b"no_new_privs" | b"setns" | b"execve" | b"write_uid_map" | b"write_gid_map" => 1,
-        b"fork" | b"clone_user" | b"unshare" | b"exit" => 0,
+        b"fork" | b"clone_user" | b"unshare" | b"exit" | b"install" => 0,
         _ => return Err("call".into()),
     };
     if equals == usize::MAX || equals + 2 != n {
         return Err("shape".into());
     }
-    let (args, many) = (n - 4, matches!(name, b"write_uid_map" | b"write_gid_map"));
-    if args < want || (if many { (args - want) % 3 } else { args - want }) != 0 {
+    let args = n - 4;
+    let fits = match name {
+        b"write_uid_map" | b"write_gid_map" => args >= want && (args - want) % 3 == 0,
+        b"install" => true,
+        _ => args == want,
+    };
+    if !fits {
         return Err("count".into());
     }
     let a = tok[2];
@@ -216,6 +268,7 @@ pub fn parse(line: &[u8], w: &World, lists: &mut Lists) -> Result<Option<Event>,
         b"fork" => Call::Fork,
         b"clone_user" => Call::CloneUser,
         b"unshare" => Call::Unshare,
+        b"install" => Call::Install(filter(line, args)?),
         _ => Call::Exit,
     };
     let res = result(call, last).ok_or("result")?;

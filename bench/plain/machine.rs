@@ -1,6 +1,6 @@
 //! The machine: processes and spaces, and what becomes of an event.
-use crate::cred::{Caller, Cred, Res};
-use crate::lines::{Call, Event, Lists, PLAIN};
+use crate::cred::{Caller, Cred, Res, SYS_ADMIN};
+use crate::lines::{kind, Call, Event, Lists, PLAIN};
 use crate::procs::{Proc, Procs};
 use crate::space::{made, may_join, may_say, written, Member, Side, Space};
 use crate::world::World;
@@ -35,6 +35,12 @@ enum Change {
     Exit,
     Fs(u32, Cred), // and the id from before
     Groups(Rc<[u32]>),
+    Filter(u32),
+}
+
+/// The process has excluded such calls.
+fn excludes(p: &Proc, call: Call) -> bool {
+    p.filter != 0 && p.filter >> kind(call) & 1 == 1
 }
 
 fn is_outside(call: Call, error: &str) -> bool {
@@ -56,6 +62,9 @@ fn rule(w: &World, spaces: &[Space], p: &Proc, call: Call, lists: &Lists) -> Res
     let own = &spaces[p.space as usize];
     let who = Member { space: p.space, cred: &p.cred };
     let done = |res: Res, change: Change| if res == Res::Done { Ok(change) } else { Err(res) };
+    if excludes(p, call) {
+        return Err(Res::Err("EPERM"));
+    }
     match call {
         Call::SetResUid(v) => p.cred.setresuid(own, v).map(Change::Caller),
         Call::SetUid(k) => p.cred.setuid(own, k).map(Change::Caller),
@@ -75,6 +84,8 @@ fn rule(w: &World, spaces: &[Space], p: &Proc, call: Call, lists: &Lists) -> Res
             caller.exec(file).map(Change::Caller)
         }
         Call::Exit => Ok(Change::Exit),
+        Call::Install(more) if p.cred.nnp || p.cred.eff & SYS_ADMIN != 0 => Ok(Change::Filter(more)),
+        Call::Install(_) => Err(Res::Err("EACCES")),
         Call::SetReUid(v) => p.cred.setreuid(own, v).map(Change::Caller),
         Call::SetGid(k) => p.cred.setgid(own, k).map(Change::Caller),
         Call::SetReGid(v) => p.cred.setregid(own, v).map(Change::Caller),
@@ -131,7 +142,7 @@ impl Machine {
             }
         }
         if let Res::Err(x) = e.res {
-            if is_outside(e.call, x) {
+            if is_outside(e.call, x) && !excludes(p, e.call) {
                 return Ok(());
             }
         }
@@ -172,7 +183,7 @@ impl Machine {
             return Err(Stop(9, format!("limit processes {MOST_PROCESSES}")));
         }
         let Some(p) = self.procs.get(pid) else { return Ok(()) };
-        let mut born = Proc { space: p.space, cred: p.cred, groups: p.groups.clone() };
+        let mut born = Proc { space: p.space, cred: p.cred, groups: p.groups.clone(), filter: p.filter };
         if let Some(space) = space {
             born.space = self.add_space(space)?;
             born.cred = born.cred.as_newcomer();
@@ -193,6 +204,7 @@ impl Machine {
             Change::Word(target, deny) => self.spaces[target as usize].deny = deny,
             Change::Exit => self.procs.remove(pid),
             Change::Groups(groups) => self.with(pid, |p| p.groups = groups),
+            Change::Filter(more) => self.with(pid, |p| p.filter |= more),
             Change::Caller(_) | Change::Birth(_) | Change::Fs(..) => (),
         }
         Ok(())

@@ -1,6 +1,6 @@
 //! The report's lines, twice: by the formatting machinery, and by hand into a buffer of bytes.
 use crate::cred::Res;
-use crate::lines::{Call, Event, Lists, CAPS, PLAIN};
+use crate::lines::{Call, Event, Lists, CALLS, CAPS, PLAIN};
 use crate::machine::res_text;
 use crate::map::NO_ID;
 use crate::procs::Proc;
@@ -20,6 +20,11 @@ fn cap_text(k: u32) -> String {
 
 fn space_text(w: &World, s: u32) -> String {
     w.spaces.get(s).map_or_else(|| format!("#{s}"), |name| String::from_utf8_lossy(name).into())
+}
+
+/// The names of the calls that a filter excludes.
+fn names(filter: u32) -> impl Iterator<Item = &'static [u8]> {
+    CALLS.iter().enumerate().filter(move |(at, _)| filter >> at & 1 == 1).map(|(_, name)| *name)
 }
 
 pub fn print_cred(out: &mut impl Write, w: &World, pid: u32, p: &Proc) -> io::Result<()> {
@@ -58,6 +63,12 @@ pub fn print_event(out: &mut impl Write, w: &World, line: u64, e: &Event, lists:
         }
         Call::Exec(row) => write!(out, "execve {}", String::from_utf8_lossy(w.paths.get(row).unwrap_or(b"-")))?,
         Call::Exit => write!(out, "exit")?,
+        Call::Install(more) => {
+            write!(out, "install")?;
+            for name in names(more) {
+                write!(out, " {}", String::from_utf8_lossy(name))?;
+            }
+        }
         Call::SetReUid(v) => write!(out, "setreuid {} {}", id_text(v[0]), id_text(v[1]))?,
         Call::SetFsUid(k) => write!(out, "setfsuid {}", id_text(k))?,
         Call::SetGid(k) => write!(out, "setgid {}", id_text(k))?,
@@ -225,6 +236,13 @@ pub fn put_event(o: &mut Vec<u8>, w: &World, line: u64, e: &Event, lists: &Lists
             o.extend_from_slice(if row == PLAIN { b"-" } else { w.paths.get(row).unwrap_or(b"-") });
         }
         Call::Exit => o.extend_from_slice(b" exit"),
+        Call::Install(more) => {
+            o.extend_from_slice(b" install");
+            for name in names(more) {
+                o.push(b' ');
+                o.extend_from_slice(name);
+            }
+        }
         Call::SetReUid(v) => put_ids(o, b" setreuid", &v),
         Call::SetFsUid(k) => put_ids(o, b" setfsuid", &[k]),
         Call::SetGid(k) => put_ids(o, b" setgid", &[k]),

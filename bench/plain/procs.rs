@@ -7,6 +7,7 @@ pub struct Proc {
     pub space: u32,
     pub cred: Cred,
     pub groups: Rc<[u32]>,
+    pub filter: u32, // the calls that it has excluded by the filters that it installed or inherited
 }
 
 #[derive(Clone, Default)]

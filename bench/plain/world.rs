@@ -398,7 +398,7 @@ impl Reader {
         }
         let cred = Cred { uid: row.uid, gid: row.gid, inh, prm, eff, bnd, amb, sec: row.sec, nnp: row.nnp };
         let groups = row.groups.unwrap_or_else(|| self.machine.no_groups.clone());
-        self.machine.procs.add(row.pid?, row.parent, Proc { space: row.space, cred, groups }).then_some(())
+        self.machine.procs.add(row.pid?, row.parent, Proc { space: row.space, cred, groups, filter: 0 }).then_some(())
     }
 }
 

@@ -51,9 +51,13 @@ class Asked:
     members: set[int]
     right: Right
 
+    def common(self) -> frozenset[str]:
+        """What the world's filter excludes, and what the own filters of all members do."""
+        return self.excluded | frozenset.intersection(*(self.state.filter_of(pid) for pid in self.members))
+
     def closure(self) -> Closure:
         """The rules over that state."""
-        return Closure(self.state.spaces, self.world.files.values(), self.excluded)
+        return Closure(self.state.spaces, self.world.files.values(), self.common())
 
     def of_members(self) -> list[Member]:
         """The members, each with its space and its credential."""
@@ -184,10 +188,11 @@ def confirmed(query: Asked, run: bytes) -> Ends:
             event = read_line(line, query.world)
             if event is None:
                 continue
+            own = state.filter_of(event.pid)
             state = next_state(rules, state, event)
         except Refused as why:
             return Ends(LIMIT, why.words) if why.status == LIMIT else refused
-        if event.pid not in members or event.call.name in query.excluded:
+        if event.pid not in members or event.call.name in query.excluded | own:
             return refused
         child = child_of(event)
         members |= {child} if child is not None else set()

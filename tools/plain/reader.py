@@ -426,9 +426,12 @@ def read_world(data: bytes) -> World:
 # Each reader is of one kind of argument; it gives None where the token isn't of the kind.
 
 
+Value = int | bytes | str
+
+
 class Read(NamedTuple):
     """A token that is read: what the rules take, and the bytes that a report has for it."""
-    value: int | bytes
+    value: Value
     written: bytes
 
 
@@ -501,6 +504,11 @@ def read_path(token: bytes, world: World) -> Read | None:
     return Read(token, token if token in world.files else b"-")
 
 
+def read_kind(token: bytes, _: World) -> Read | None:
+    """The name of a call that a filter which is installed can exclude."""
+    return Read(token.decode(), token) if token in CALLS and token != b"exit" else None
+
+
 # ---- lines ---------------------------------------------------------------------------------------------------------
 
 Readers = tuple[TokenReader, ...]
@@ -516,6 +524,7 @@ CALLS: dict[bytes, tuple[Readers, Readers]] = {
     b"no_new_privs": ((read_number,), ()), b"fork": ((), ()), b"clone_user": ((), ()), b"unshare": ((), ()),
     b"setns": ((read_space,), ()), b"write_uid_map": ((read_space,), TRIPLE), b"write_gid_map": ((read_space,), TRIPLE),
     b"write_setgroups": ((read_space, read_word), ()), b"execve": ((read_path,), ()), b"exit": ((), ()),
+    b"install": ((), (read_kind,)),
 }
 FS_IDS, BIRTHS, MAPS = (b"setfsuid", b"setfsgid"), (b"fork", b"clone_user"), (b"write_uid_map", b"write_gid_map")
 BLANKS = re.compile(rb"[ \t\r]+")
@@ -548,7 +557,7 @@ def read_result(call: bytes, token: bytes) -> str | None:
     """The result as a report has it, None where the call can't have it."""
     number, name = digits(token), token.decode() if token.decode("ascii", "replace") in ERRORS else None
     if call in FS_IDS:
-        return None if number is None else str(number)
+        return name if name == "EPERM" else None if number is None else str(number)
     if call in BIRTHS:
         return name or (str(number) if number is not None and 1 <= number <= LAST_PID else None)
     if call == b"exit" or name is None:
@@ -556,7 +565,12 @@ def read_result(call: bytes, token: bytes) -> str | None:
     return name
 
 
-def as_rules_take(call: bytes, values: list[int | bytes]) -> Call:
+def in_order(kinds: list[Read]) -> list[Read]:
+    """The names of a filter as they are written: each once, in the order of the calls."""
+    return [Read(name.decode(), name) for name in CALLS if any(one.written == name for one in kinds)]
+
+
+def as_rules_take(call: bytes, values: list[Value]) -> Call:
     """A call with the values of its arguments; those of a map line by line."""
     arguments: list[Argument] = [*values]
     if call in MAPS:
@@ -592,6 +606,8 @@ def read_line(line: bytes, world: World) -> Event | None:
         raise line_fault("result")
     if call == b"setgroups" and len(read) > LIMITS["groups"]:
         raise past_limit("groups")
+    if call == b"install":
+        read = in_order(read)
     written = b" ".join([b"%d" % pid, call, *(one.written for one in read), b"=", result.encode()])
     return Event(pid, as_rules_take(call, [one.value for one in read]), result, written)
 

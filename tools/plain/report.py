@@ -59,7 +59,7 @@ def next_state(rules: Rules, state: State, event: Event) -> State:
         raise impossible("no space")
     if child in state.processes:
         raise impossible("pid in use")
-    if event.result in FROM_OUTSIDE.get(name, ANY):
+    if name not in state.filter_of(event.pid) and event.result in FROM_OUTSIDE.get(name, ANY):
         return state
     result, after = rules.answer(state, event.pid, event.call, child or least_free(state))
     if result != event.result:

@@ -7,7 +7,7 @@ answer to a call of a process, and the state after it. Ids are those of the init
 list of (inside, outside, length), or None while it isn't written; sets are numbers, bit k for capability k.
 """
 from collections.abc import Callable, Mapping
-from dataclasses import dataclass, replace
+from dataclasses import dataclass, field, replace
 from typing import NamedTuple
 
 CAPABILITIES = (
@@ -25,7 +25,7 @@ REAL, EFFECTIVE, SAVED, FS = range(4)
 Ids = tuple[int, ...]       # real, effective, saved, fs
 Line = tuple[int, int, int]     # of a map: inside, outside, length
 Lines = tuple[Line, ...]
-Argument = int | bytes | Line
+Argument = int | bytes | str | Line
 
 
 def cap(name: str) -> int:
@@ -123,14 +123,25 @@ class File:
 
 @dataclass(frozen=True)
 class State:
-    """All processes by pid, and all spaces by number."""
+    """All processes by pid, all spaces by number, and by pid the calls that a process's own filter excludes, where it
+    has one."""
     processes: dict[int, Member]
     spaces: tuple[Space, ...]
+    filters: dict[int, frozenset[str]] = field(default_factory=dict)
+
+    def filter_of(self, pid: int) -> frozenset[str]:
+        """The calls that the process's own filter excludes."""
+        return self.filters.get(pid, frozenset())
+
+    def with_filter(self, pid: int, own: frozenset[str]) -> "State":
+        """The state where the process has that filter."""
+        others = {one: filter_ for one, filter_ in self.filters.items() if one != pid}
+        return replace(self, filters={**others, pid: own} if own else others)
 
 
 class Call(NamedTuple):
     """A call as the rules take it: ids, numbers, sets and spaces are numbers, of maps the lines stand one by one, the
-    word of setgroups is whether it is deny, and of execve there is a path."""
+    word of setgroups is whether it is deny, of execve there is a path, and of install the names of calls."""
     name: str
     arguments: tuple[Argument, ...] = ()
 
@@ -194,7 +205,10 @@ class Rules:
         self.files = files or {}
 
     def answer(self, state: State, pid: int, call: Call, child: int = 0) -> tuple[str, State]:
-        """The result, and the state after it; a child that is born has the pid `child`."""
+        """The result, and the state after it; a child that is born has the pid `child`. A call that the caller's own
+        filter excludes is refused before all else."""
+        if call.name in state.filter_of(pid):
+            return "EPERM", state
         self.state, self.pid, self.child = state, pid, child
         self.number, cred = state.processes[pid]
         self.space = state.spaces[self.number]
@@ -374,16 +388,28 @@ class Rules:
         unless(number == 1, "EINVAL")
         return "0", replace(cred, nnp=True)
 
+    # ---- filters (seccomp(2))
+
+    def install(self, cred: Credential, *names: str) -> Answer:
+        """seccomp(2), SECCOMP_SET_MODE_FILTER: the caller's filter excludes these calls too, but exit."""
+        unless(cred.nnp or cred.has(SYS_ADMIN), "EACCES")
+        own = self.state.filter_of(self.pid) | frozenset(names) - {"exit"}
+        return "0", self.state.with_filter(self.pid, own)
+
     # ---- births and exits
+
+    def born(self, state: State, number: int, cred: Credential) -> State:
+        """The state with the child, which has its parent's filter."""
+        return self.with_process(state, self.child, number, cred).with_filter(self.child, state.filter_of(self.pid))
 
     def fork(self, cred: Credential) -> Answer:
         """fork(2): the child is as its parent."""
-        return str(self.child), self.with_process(self.state, self.child, self.number, cred)
+        return str(self.child), self.born(self.state, self.number, cred)
 
     def exit(self, _: Credential) -> Answer:
         """The end of the caller."""
         left = {pid: one for pid, one in self.state.processes.items() if pid != self.pid}
-        return "0", replace(self.state, processes=left)
+        return "0", replace(self.state, processes=left).with_filter(self.pid, frozenset())
 
     # ---- power over spaces (user_namespaces(7), "Capabilities")
 
@@ -433,7 +459,7 @@ class Rules:
     def clone_user(self, cred: Credential) -> Answer:
         """clone(CLONE_NEWUSER): the child stands in the new space."""
         state = self.made(cred)
-        return str(self.child), self.with_process(state, self.child, len(state.spaces) - 1, self.newcomer(cred))
+        return str(self.child), self.born(state, len(state.spaces) - 1, self.newcomer(cred))
 
     def setns(self, cred: Credential, target: int) -> Answer:
         """setns(2)."""

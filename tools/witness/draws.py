@@ -1,10 +1,10 @@
 """Draws small worlds and queries on them: families of up to three processes in up to four spaces, some files, a filter,
-and a right near what they have. A draw follows from its seed and number alone."""
+filters that processes install, and a right near what they have. A draw follows from its seed and number alone."""
 from dataclasses import replace
 from random import Random
 
 from .settled import ALL_NOROOT, ALTERNATIVES, NNP, NO_BOUNDING, NOROOT, SPACES, alternatives, is_settled
-from .worlds import ALL, CALLS, File, Four, Lines, Mount, Process, Query, Space, World
+from .worlds import ALL, CALLS, File, Four, Installs, Lines, Mount, Process, Query, Space, World
 
 IDS = (0, 7, 34, 500, 1000, 1001)
 FIRST, STRANGER = 100, 50
@@ -104,6 +104,22 @@ def draw_excluded(rng: Random) -> frozenset[str]:
     return frozenset(excluded)
 
 
+def able(process: Process) -> bool:
+    """Whether it may install a filter (seccomp(2), "ERRORS")."""
+    return process.nnp or bool(process.sets[1] >> SYS_ADMIN & 1)
+
+
+def draw_installs(rng: Random, processes: tuple[Process, ...], alike: bool) -> Installs:
+    """The filters that some of those install that may; or the same one of all of the family, where all may."""
+    if some(rng, 0.5):
+        return ()
+    if alike:
+        members = [one for one in processes if one.pid >= FIRST]
+        names = draw_excluded(rng) - {"exit"}
+        return tuple((one.pid, names) for one in members) if all(map(able, members)) else ()
+    return tuple((one.pid, draw_excluded(rng) - {"exit"}) for one in processes if able(one) and some(rng, 0.7))
+
+
 def draw_query(rng: Random, world: World) -> Query:
     """Half of them an id, at times one of a member's; of capabilities most over a space below the initial one, where
     there is one."""
@@ -123,8 +139,10 @@ def small(seed: int, number: int) -> Query:
     mounts = (Mount(rng.randint(0, len(spaces)), some(rng, 0.5)),) if some(rng, 0.3) else ()
     with_caps, count = rng.choice((0.0, 0.3)), rng.choice((0, 0, 1, 2, 3))
     files = tuple(draw_file(rng, len(mounts), MODES, with_caps) for _ in range(count))
-    world = World(spaces, mounts, files, draw_processes(rng, len(spaces), 0.5), draw_excluded(rng))
-    return draw_query(rng, world)
+    processes, exclude = draw_processes(rng, len(spaces), 0.5), draw_excluded(rng)
+    own = Random(f"{seed} small {number} installs")
+    installs = draw_installs(own, processes, some(own, 0.3))
+    return draw_query(rng, World(spaces, mounts, files, processes, exclude, installs))
 
 
 def toward(rng: Random, wanted: str, process: Process) -> Process:
@@ -138,10 +156,20 @@ def toward(rng: Random, wanted: str, process: Process) -> Process:
     return replace(plain, bounding=0) if wanted == NO_BOUNDING else plain
 
 
+def with_installs(rng: Random, world: World) -> World:
+    """The world where all of the family install one filter, at times; half of the times it is this one that excludes
+    the calls of spaces, and not the world's."""
+    installs = draw_installs(rng, world.processes, True)
+    if not installs or some(rng, 0.5):
+        return replace(world, installs=installs)
+    more = tuple((pid, names | SPACES) for pid, names in installs)
+    return replace(world, exclude=world.exclude - SPACES, installs=more)
+
+
 def settled(seed: int, number: int) -> Query:
     """A settled family, by one alternative of the third sentence and no other; these take turns."""
     wanted = ALTERNATIVES[number % len(ALTERNATIVES)]
-    rng = Random(f"{seed} settled {number}")
+    rng, own = Random(f"{seed} settled {number}"), Random(f"{seed} settled {number} installs")
     while True:
         spaces = draw_spaces(rng, 3, rng.choice((0.8, 1.0)))
         mounts = (Mount(rng.randint(0, len(spaces)), some(rng, 0.5)),) if some(rng, 0.5) else ()
@@ -150,6 +178,7 @@ def settled(seed: int, number: int) -> Query:
         processes = tuple(toward(rng, wanted, one) if one.pid >= FIRST else one
                           for one in draw_processes(rng, len(spaces), 1.0))
         world = World(spaces, mounts, files, processes, draw_excluded(rng) | SPACES)
+        world = with_installs(own, world)
         members = [one for one in processes if one.pid >= FIRST]
         if alternatives(world, members) == [wanted] and is_settled(world, FIRST):
             return draw_query(rng, world)

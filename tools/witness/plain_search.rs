@@ -4,8 +4,9 @@
 //!
 //!   plain_search < QUERIES
 //!
-//! A query is a line `WORLD PID RIGHT SEED`: a file, the family's first process, the right as an audit has it, a number
-//! for the choice of calls. Of each one line is answered at once: `reached DEPTH STATES CALLS PID`, after it the run's
+//! A query is a line `WORLD LOG PID RIGHT SEED`: a file, another one with a script of fork, install and their like (the
+//! calls that the plain reader of scripts knows), the family's first process, the right as an audit has it, a number for
+//! the choice of calls. Of each one line is answered at once: `reached DEPTH STATES CALLS PID`, after it the run's
 //! events, each behind a tab; or `not DEPTH STATES CALLS`; or `bad`. DEPTH is how many calls the furthest states are
 //! away, STATES how many states were met, CALLS how many calls were tried, PID is the least holder.
 #![allow(dead_code)]
@@ -37,13 +38,28 @@ mod walk;
 #[path = "../../bench/plain/world.rs"]
 mod world;
 
+use lines::Lists;
+use machine::Machine;
 use right::Right;
 use std::io::{self, BufRead, Write};
+use world::World;
+
+/// The machine after a script.
+fn replayed(w: &World, mut m: Machine, log: &[u8]) -> Option<Machine> {
+    let mut lists = Lists::default();
+    for line in log.split(|b| *b == b'\n') {
+        if let Some(event) = lines::parse(line, w, &mut lists).ok()? {
+            m.step(w, &event, &lists).ok()?;
+        }
+    }
+    Some(m)
+}
 
 fn answer(query: &str) -> Option<String> {
     let mut words = query.split(' ');
-    let (name, pid, right, seed) = (words.next()?, words.next()?, words.next()?, words.next()?);
+    let (name, log, pid, right, seed) = (words.next()?, words.next()?, words.next()?, words.next()?, words.next()?);
     let (w, m) = world::read(&std::fs::read(name).ok()?)?;
+    let m = replayed(&w, m, &std::fs::read(log).ok()?)?;
     let right = Right::of(right, &w, &m)?;
     let seen = walk::search(&w, m, pid.parse().ok()?, right, seed.parse().ok()?);
     let counts = format!("{} {} {}", seen.depth, seen.states, seen.calls);

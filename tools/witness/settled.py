@@ -1,6 +1,6 @@
 """Which families are settled (docs/VERDICT.md, "Settled families"), by the page's four sentences over a small world.
-The third has a choice of four, by which programs give nothing; all members of a small world may call the same."""
-from .worlds import Process, World, above, down, family, stored, up
+The third has a choice of four, by which programs give nothing."""
+from .worlds import Process, World, above, common, down, family, filter_of, stored, up
 
 NOROOT = 0x01
 SPACES = frozenset(("unshare", "clone_user", "setns"))
@@ -45,5 +45,5 @@ def alternatives(world: World, members: list[Process]) -> list[str]:
 def is_settled(world: World, pid: int) -> bool:
     """Whether the family of a process is settled."""
     members = family(world, pid)
-    return (all(is_plain(world, one) for one in members) and SPACES <= world.exclude
-            and bool(alternatives(world, members)))
+    return (all(is_plain(world, one) for one in members) and SPACES <= common(world, members)
+            and bool(alternatives(world, members)) and len({filter_of(world, one.pid) for one in members}) == 1)

@@ -16,9 +16,9 @@ BOUNDS = '{"format":1,"rows":[]}'
 NOBODY = "uid=9,9,9,9 gid=9,9,9,9 groups=- inh={0} prm={0} eff={0} bnd={0} amb={0} sec=00 nnp=1".format("0" * 16)
 
 
-def searched(program: str, world: str, pid: str, right: str) -> tuple[int, list[str]]:
+def searched(program: str, world: str, log: str, pid: str, right: str) -> tuple[int, list[str]]:
     """The status and the lines of an audit, as the plain search finds them."""
-    query = f"{world} {pid} {right} 1\n"
+    query = f"{world} {log} {pid} {right} 1\n"
     told = subprocess.run([program], input=query, capture_output=True, text=True, check=True).stdout.rstrip("\n")
     head, *run = told.split("\t")
     found, *_, holder = head.split()
@@ -37,7 +37,7 @@ def answer(kind: str, words: list[str]) -> tuple[int, list[str]]:
     """The status and the lines of an answer."""
     if kind == "search":
         program, *words = words
-        status, verdict = searched(program, words[1], *words[3:5])
+        status, verdict = searched(program, *words[1:5])
     elif words[0] == "replay":
         return 0, [f"> 100 s9 {NOBODY}"]
     else:

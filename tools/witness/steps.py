@@ -60,6 +60,11 @@ def lines(rng: Random, world: World, state: State, pid: int) -> str:
     return space(rng, world, state, pid) + "".join(triples)
 
 
+def kinds(rng: Random, *_: object) -> str:
+    """Some calls that a filter excludes."""
+    return " ".join(rng.choice(FILTERED) for _ in range(rng.choice((0, 1, 1, 2, 3))))
+
+
 def path(rng: Random, world: World, *_: object) -> str:
     """A file."""
     return rng.choice(["-", *(name.decode() for name in world.files)])
@@ -73,7 +78,8 @@ CALLS: dict[str, Argument] = {
     "securebits": word("0", "1", "3", "4", "47"), "keepcaps": word("0", "1"), "no_new_privs": word("1"),
     "fork": word(""), "clone_user": word(""), "unshare": word(""), "exit": word(""), "setns": space,
     "write_uid_map": lines, "write_gid_map": lines, "execve": path,
-    "write_setgroups": word_of}
+    "write_setgroups": word_of, "install": kinds}
+FILTERED = tuple(name for name in CALLS if name != "exit")
 
 
 def step(rng: Random, world: World, state: State, pid: int) -> tuple[str, State]:

@@ -61,11 +61,11 @@ def asked_of(told: argparse.Namespace, work: Path) -> Asked:
 
 
 def answered(asked: Asked, query: Query, number: int) -> tuple[Path, Answer]:
-    """The file of the query's world, and the verdict; of `yes` once its certificate was checked, of `no` once its run
-    was confirmed and replayed."""
+    """The file of the query's world, beside which its log stands, and the verdict; of `yes` once its certificate was
+    checked, of `no` once its run was confirmed and replayed."""
     world, log = asked.work / f"{number}.toml", asked.work / f"{number}.log"
     world.write_text(worlds.text(query.world))
-    log.write_text("")
+    log.write_text(worlds.log(query.world))
     answer = ask(asked.audit, world, log, query)
     check_answer(asked.audit, world, log, query, answer)
     if answer.verdict == NO:
@@ -120,7 +120,7 @@ class Searches:
             self.all.append(self.own.child)
         child: subprocess.Popen[str] = self.own.child
         assert child.stdin and child.stdout
-        child.stdin.write(f"{world} {query.pid} {query.right()} {seed}\n")
+        child.stdin.write(f"{world} {world.with_suffix('.log')} {query.pid} {query.right()} {seed}\n")
         child.stdin.flush()
         head, *run = child.stdout.readline().rstrip("\n").split("\t")
         if head in ("", "bad"):

@@ -6,7 +6,7 @@ ALL = (1 << 41) - 1
 NO_SETS = (0, 0, 0, 0)
 CALLS = ("setuid setreuid setresuid setfsuid setgid setregid setresgid setfsgid setgroups capset bset_drop amb_raise"
          " amb_lower amb_clear securebits keepcaps no_new_privs fork clone_user unshare setns write_uid_map"
-         " write_gid_map write_setgroups execve exit").split()
+         " write_gid_map write_setgroups execve exit install").split()
 CAPABILITIES = (
     "CHOWN DAC_OVERRIDE DAC_READ_SEARCH FOWNER FSETID KILL SETGID SETUID SETPCAP LINUX_IMMUTABLE NET_BIND_SERVICE"
     " NET_BROADCAST NET_ADMIN NET_RAW IPC_LOCK IPC_OWNER SYS_MODULE SYS_RAWIO SYS_CHROOT SYS_PTRACE SYS_PACCT SYS_ADMIN"
@@ -59,14 +59,19 @@ class Process:
     nnp: bool = False
 
 
+Installs = tuple[tuple[int, frozenset[str]], ...]
+
+
 @dataclass(frozen=True)
 class World:
-    """A small world, and the calls that its filter excludes."""
+    """A small world, the calls that its filter excludes, and the filters that its processes then install: each a pid
+    and the calls that it excludes from then on."""
     spaces: tuple[Space, ...] = ()
     mounts: tuple[Mount, ...] = ()
     files: tuple[File, ...] = ()
     processes: tuple[Process, ...] = ()
     exclude: frozenset[str] = field(default_factory=frozenset)
+    installs: Installs = ()
 
 
 @dataclass(frozen=True)
@@ -97,6 +102,16 @@ def family(world: World, pid: int) -> list[Process]:
         if one.parent in members:
             members.add(one.pid)
     return [one for one in world.processes if one.pid in members]
+
+
+def filter_of(world: World, pid: int) -> frozenset[str]:
+    """The calls that the process's own filter excludes, after all installs."""
+    return frozenset[str]().union(*(names for one, names in world.installs if one == pid))
+
+
+def common(world: World, members: list[Process]) -> frozenset[str]:
+    """What the world's filter excludes, and what the own filters of all members do."""
+    return world.exclude | frozenset.intersection(*(filter_of(world, one.pid) for one in members))
 
 
 def above(world: World, number: int) -> list[int]:
@@ -198,3 +213,10 @@ def text(world: World) -> str:
     if world.exclude:
         tables.append(f"[filter]\nexclude = [{', '.join(map(quoted, sorted(world.exclude)))}]\n")
     return 'log = "script"\n' + "".join(tables)
+
+
+def log(world: World) -> str:
+    """The script in which the processes install their filters."""
+    lines = (" ".join((str(pid), "install", *(name for name in CALLS if name in names), "= 0"))
+             for pid, names in world.installs)
+    return "".join(f"{line}\n" for line in lines)

@@ -4,7 +4,7 @@ use cm_filter::{CallKind, Filter};
 use std::alloc::Global;
 
 // The names of all calls.
-const CALLS: [&str; 26] = [
+const CALLS: [&str; 27] = [
     "setuid",
     "setreuid",
     "setresuid",
@@ -31,6 +31,7 @@ const CALLS: [&str; 26] = [
     "write_setgroups",
     "execve",
     "exit",
+    "install",
 ];
 
 // The filter that excludes these calls. Bad where one is none.

@@ -242,6 +242,18 @@ class Answers(Case):
         self.is_told("impossible line 1: pid in use", "", log="100 fork = 100", status=3)
         self.is_told("impossible line 1: the rules give 1", "", log="100 fork = EPERM", status=3)
 
+    def test_filters_replayed(self) -> None:
+        """What processes exclude: themselves, their children, and bounds where all members exclude it."""
+        install = "100 install clone_user unshare clone_user = 0\n"
+        self.is_told("holds", SAMPLE, world=WORLD, log=install + "100 fork = 7\n7 unshare = EPERM\n", status=0)
+        self.is_told("refused not-closed create fresh(init)", SAMPLE, world=WORLD, log="100 fork = 7\n" + install)
+        self.is_told("impossible line 2: the rules give EPERM", "", log=install + "100 unshare = ENOMEM", status=3)
+        self.is_told("impossible line 3: the rules give EPERM", "", status=3,
+                     log="100 install setfsuid = 0\n100 setfsuid 5 = EPERM\n100 setfsuid 5 = 1000\n")
+        self.is_told("impossible line 1: the rules give EACCES", "", status=3, log="100 install = 0\n",
+                     world=WORLD.replace("no_new_privs = true\n", ""))
+        self.is_told("bad log line 1: argument 2", "", log="100 install fork exit = 0\n", status=5)
+
     def test_not_judged(self) -> None:
         self.is_told("not judged: line 1: call", SAMPLE, world=FILTERED.replace('"script"', '"strace"'), status=14,
                      log="100 setuid 1000 = 0\n")

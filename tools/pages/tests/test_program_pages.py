@@ -65,7 +65,7 @@ class ProgramPages(Case):
     def test_calls(self) -> None:
         rows = table(text("docs", "FORMATS.md"), "| Call | Arguments |")
         calls = {name for row in rows for name in re.findall(r"`(\w+)`", row[0])}
-        self.assertEqual(len(calls), 26)
+        self.assertEqual(len(calls), 27)
         page = section(text("man", "credaudit-log.5"), "DESCRIPTION").split(".Ss Calls")[1]
         self.assertEqual(described(page), calls)
 

@@ -1,6 +1,6 @@
-//! The calls that are tried in a state: of each member some of each of the 26 kinds, with arguments near what stands in
+//! The calls that are tried in a state: of each member some of each of the 27 kinds, with arguments near what stands in
 //! the world. Births, calls that make or join a space, and programs come first: a choice among the rest keeps them all.
-use crate::lines::{Call, Lists, CALLS, PLAIN};
+use crate::lines::{kind, Call, Lists, CALLS, PLAIN};
 use crate::machine::Machine;
 use crate::map::{down, up, Extent, Map, NO_ID};
 use crate::procs::Proc;
@@ -23,6 +23,8 @@ pub struct Pool {
 
 /// CAP_DAC_OVERRIDE, CAP_SETGID, CAP_SETUID, CAP_SETPCAP, CAP_SYS_ADMIN, CAP_SETFCAP: those by which calls are allowed.
 const CAPS: [u32; 6] = [1, 6, 7, 8, 21, 31];
+/// Those that filters of the menu exclude.
+const FILTERS: [Call; 4] = [Call::SetUid(0), Call::SetResUid([0; 3]), Call::Exec(PLAIN), Call::Unshare];
 const BITS: [u32; 7] = [0x00, 0x01, 0x03, 0x04, 0x10, 0x2f, 0x40];
 
 fn once(mut ids: Vec<u32>) -> Vec<u32> {
@@ -67,39 +69,6 @@ impl Pool {
     }
 }
 
-/// The place of the call's kind in `CALLS`.
-pub fn kind(call: Call) -> usize {
-    let name: &[u8] = match call {
-        Call::SetUid(_) => b"setuid",
-        Call::SetReUid(_) => b"setreuid",
-        Call::SetResUid(_) => b"setresuid",
-        Call::SetFsUid(_) => b"setfsuid",
-        Call::SetGid(_) => b"setgid",
-        Call::SetReGid(_) => b"setregid",
-        Call::SetResGid(_) => b"setresgid",
-        Call::SetFsGid(_) => b"setfsgid",
-        Call::SetGroups => b"setgroups",
-        Call::CapSet => b"capset",
-        Call::BsetDrop(_) => b"bset_drop",
-        Call::AmbRaise(_) => b"amb_raise",
-        Call::AmbLower(_) => b"amb_lower",
-        Call::AmbClear => b"amb_clear",
-        Call::SecureBits(_) => b"securebits",
-        Call::KeepCaps(_) => b"keepcaps",
-        Call::NoNewPrivs(_) => b"no_new_privs",
-        Call::Fork => b"fork",
-        Call::CloneUser => b"clone_user",
-        Call::Unshare => b"unshare",
-        Call::SetNs(_) => b"setns",
-        Call::WriteMap(Side::Users, _) => b"write_uid_map",
-        Call::WriteMap(Side::Groups, _) => b"write_gid_map",
-        Call::WriteSetgroups(..) => b"write_setgroups",
-        Call::Exec(_) => b"execve",
-        Call::Exit => b"exit",
-    };
-    CALLS.iter().position(|one| *one == name).expect("a name of the table")
-}
-
 /// The calls of the members, those first that all choices keep, and how many these are.
 pub struct Menu<'a> {
     w: &'a World,
@@ -122,6 +91,7 @@ impl<'a> Menu<'a> {
             menu.groups(pid, p, m);
             menu.sets(pid, p);
             menu.maps(pid, m);
+            menu.filters(pid);
         }
         menu
     }
@@ -139,6 +109,12 @@ impl<'a> Menu<'a> {
     fn spaces(&mut self, pid: u32, p: &Proc, m: &Machine) {
         self.plain(pid, [Call::Fork, Call::CloneUser, Call::Unshare]);
         self.plain(pid, (0..m.spaces.len() as u32).filter(|n| *n != p.space).map(Call::SetNs));
+    }
+
+    /// Filters that exclude one call each, and one that excludes all but exit.
+    fn filters(&mut self, pid: u32) {
+        let all = (1 << CALLS.len()) - 1 & !(1 << kind(Call::Exit));
+        self.plain(pid, FILTERS.map(|one| 1 << kind(one)).into_iter().chain([all]).map(Call::Install));
     }
 
     fn programs(&mut self, pid: u32) {

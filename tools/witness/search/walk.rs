@@ -62,7 +62,7 @@ fn mark(m: &Machine) -> u64 {
     let mut h = DefaultHasher::new();
     for (pid, p) in m.procs.all() {
         let c = &p.cred;
-        (pid, p.space, c.uid, c.gid, &*p.groups).hash(&mut h);
+        (pid, p.space, c.uid, c.gid, &*p.groups, p.filter).hash(&mut h);
         (c.inh, c.prm, c.eff, c.bnd, c.amb, c.sec, c.nnp).hash(&mut h);
     }
     for s in &m.spaces {

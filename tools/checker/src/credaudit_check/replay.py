@@ -8,7 +8,7 @@ from .rules.credentials import own_call
 from .rules.ids import MapLine, has, is_map, outside_ids, taken_down
 from .rules.machine import Credential, Process, Space, State, World, newcomer
 from .rules.programs import execve
-from .texts.script import BIRTHS, Event
+from .texts.script import BIRTHS, Event, Value
 
 MOST_PROCESSES, MOST_SPACES, DEEPEST = 4096, 256, 32
 FROM_OUTSIDE = ("ENOMEM", "EAGAIN", "EINTR", "EFAULT", "EIO")
@@ -54,6 +54,10 @@ class Replay:
         is_pid = event.call in BIRTHS and isinstance(event.result, int)
         if is_pid and event.result in self.state.processes:
             raise impossible("pid in use")
+        if event.call in self.state.processes[event.pid].filter:
+            if event.result != "EPERM":
+                raise impossible("the rules give EPERM")
+            return
         if is_from_outside(event):
             return
         given = self.answer(event)
@@ -86,6 +90,8 @@ class Replay:
             if refused is None:
                 self.state.processes[event.pid] = self.in_new_space(caller)
             return refused or 0
+        if call == "install":
+            return self.install(event.pid, caller, event.values)
         if call == "setns":
             return self.setns(event.pid, caller, event.numbers()[0])
         if call in ("write_uid_map", "write_gid_map"):
@@ -104,6 +110,13 @@ class Replay:
     def put(self, pid: int, process: Process, cred: Credential) -> None:
         """Gives a process a credential."""
         self.state.processes[pid] = replace(process, cred=cred)
+
+    def install(self, pid: int, caller: Process, names: tuple[Value, ...]) -> int | str:
+        """install."""
+        if not caller.cred.no_new_privs and not caller.cred.effective & SYS_ADMIN:
+            return "EACCES"
+        self.state.processes[pid] = replace(caller, filter=caller.filter.union(map(str, names)))
+        return 0
 
     # ---- births, new spaces, joins
 

@@ -170,7 +170,9 @@ class Words(support.Case):
                 "execve /opt/x = 0": "executes /opt/x", "clone_user = ENOSPC": "starts a process in a new user",
                 "fork = 7": "starts process 7", "setns box = 0": "enters the user namespace box",
                 "write_setgroups box deny = 0": "writes deny to the setgroups file of box",
-                "write_gid_map box = EINVAL": "writes the gid_map of box: nothing", "exit = 0": "ends"}
+                "write_gid_map box = EINVAL": "writes the gid_map of box: nothing", "exit = 0": "ends",
+                "install setuid fork = 0": "installs a filter that excludes setuid, fork",
+                "install = EACCES": "excludes no call; refused: EACCES"}
         for line, words in rows.items():
             self.assertIn(words, run_words.told("100 " + line, place), line)
         self.assertEqual(set(run_words.WORDS), {line.split()[0] for line in rows} | {

@@ -22,7 +22,7 @@ class Closure:
         self.state = state
         self.family = list(family)
         self.programs = [view_of(file) for file in world.files.values() if file.interpreter is None]
-        self.excluded = world.excluded
+        self.excluded = world.excluded | frozenset.intersection(*(state.processes[pid].filter for pid in self.family))
         self.chains = [state.chain(space) for space in range(len(state.spaces))]
 
     def permits(self, *calls: str) -> bool:

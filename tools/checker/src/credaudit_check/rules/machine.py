@@ -8,7 +8,7 @@ NOROOT, NOROOT_LOCK, NO_SETUID_FIXUP, KEEP_CAPS, KEEP_CAPS_LOCK, NO_AMBIENT_RAIS
 CALLS = (
     "setuid setfsuid setgid setfsgid setreuid setregid setresuid setresgid setgroups capset bset_drop amb_raise"
     " amb_lower amb_clear securebits keepcaps no_new_privs fork clone_user unshare setns write_uid_map write_gid_map"
-    " write_setgroups execve exit").split()
+    " write_setgroups execve exit install").split()
 
 
 @dataclass(frozen=True)
@@ -87,10 +87,11 @@ class Credential:
 
 @dataclass(frozen=True)
 class Process:
-    """A live process: its forebear, its space and its credential."""
+    """A live process: its forebear, its space, its credential, and the calls that its own filter excludes."""
     forebear: int | None
     space: int
     cred: Credential
+    filter: frozenset[str] = frozenset()
 
 
 @dataclass

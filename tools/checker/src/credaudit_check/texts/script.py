@@ -6,7 +6,7 @@ from dataclasses import dataclass
 from .ends import Ended, limit
 from ..rules.capabilities import NUMBERS, caps_of
 from ..rules.ids import NO_ID, MapLine
-from ..rules.machine import World
+from ..rules.machine import CALLS, World
 from .tables import LAST_PID, MOST_GROUPS
 
 MOST_OF_LINE = 1048576
@@ -23,6 +23,7 @@ ARGUMENTS = {
     **dict.fromkeys(("amb_clear", "fork", "clone_user", "unshare", "exit"), ""),
     "capset": "set set set", "setns": "space", "write_setgroups": "space word", "execve": "path",
 }
+LISTS = ("setgroups", "write_uid_map", "write_gid_map", "install")
 Value = int | str | bytes
 
 
@@ -82,14 +83,16 @@ def value_of(token: bytes, kind: str, world: World) -> Value | None:
             return space_of(token, world)
         case "word":
             return text if text in ("allow", "deny") else None
+        case "kind":
+            return text if text in CALLS and text != "exit" else None
     plain = len(token) <= 4095 and all(byte > 0x20 and byte != 0x7f for byte in token)
     return token if plain else None
 
 
 def kinds_of(call: str, count: int) -> list[str] | None:
     """The kinds of so many arguments of a call; None where it can't have so many."""
-    if call == "setgroups":
-        return ["id"] * count
+    if call in ("setgroups", "install"):
+        return ["id" if call == "setgroups" else "kind"] * count
     if call in ("write_uid_map", "write_gid_map"):
         return ["space"] + ["number"] * (count - 1) if count % 3 == 1 else None
     kinds = ARGUMENTS[call].split()
@@ -98,9 +101,9 @@ def kinds_of(call: str, count: int) -> list[str] | None:
 
 def result_of(call: str, token: bytes) -> int | str | None:
     """The result of a call; None where it can't have it."""
-    if call in ("setfsuid", "setfsgid"):
-        return number_of(token)
     text = token.decode("utf-8", "replace")
+    if call in ("setfsuid", "setfsgid"):
+        return text if text == "EPERM" else number_of(token)
     if text in ERRORS and call != "exit":
         return text
     if call in BIRTHS:
@@ -117,7 +120,7 @@ def event_of(number: int, tokens: list[bytes], world: World) -> Event:
     if pid is None:
         raise fault("pid")
     call = tokens[1].decode("utf-8", "replace") if len(tokens) > 1 else ""
-    if call != "setgroups" and call not in ARGUMENTS and call not in ("write_uid_map", "write_gid_map"):
+    if call not in ARGUMENTS and call not in LISTS:
         raise fault("call")
     rest = tokens[2:]
     if b"=" not in rest or len(rest) != rest.index(b"=") + 2:

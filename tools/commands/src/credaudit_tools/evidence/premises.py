@@ -52,7 +52,8 @@ TABLE = (
     Premise(MAPS, "user namespaces, their owners and their maps are as in the replay",
             "the comparison of the replay with the namespaces of all that lives at the end",
             "a difference, a map whose writing couldn't be told"),
-    Premise(FILTERS, "what [filter] of the world declares holds for every member",
+    Premise(FILTERS, "what [filter] of the world declares holds for every member, and what an install of the log"
+            " excludes for the process that makes it",
             "the world declares none; or the kernel showed as many filters for each member of the family that is asked"
             " about",
             "members with different filters, or a declared one that the kernel doesn't show"),

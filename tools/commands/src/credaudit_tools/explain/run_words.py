@@ -20,7 +20,8 @@ LINE = re.compile(r"(\d+) ([a-z_]+)((?: \S+)*) = (\S+)")
 KEPT = 4294967295
 SET_ID, SET_GROUP = 0o4000, 0o2000
 # Calls after which the permitted and the inheritable set are what they were, or are told.
-SAME_SETS = ("capset", "fork", "setgroups", "bset_drop", "no_new_privs", "securebits", "keepcaps", "exit")
+SAME_SETS = ("capset", "fork", "setgroups", "bset_drop", "no_new_privs", "securebits", "keepcaps", "exit",
+             "install")
 
 
 @dataclass
@@ -165,6 +166,7 @@ WORDS: dict[str, Callable[[Said], str]] = {
     "setns": with_word("enters the user namespace"), "write_uid_map": map_write, "write_gid_map": map_write,
     "write_setgroups": lambda said: f"writes {said.words[1]} to the setgroups file of {said.words[0]}",
     "exit": fixed("ends"),
+    "install": lambda said: f"installs a filter that excludes {', '.join(said.words) or 'no call'}",
 }
 
 

@@ -19,7 +19,8 @@ OTHER_NAMES = {"clone": "fork, or clone_user with CLONE_NEWUSER", "clone3": "for
                "vfork": "fork", "exit_group": "exit", "_exit": "exit", "execveat": "execve",
                "seteuid": "setresuid -1 ID -1",
                "setegid": "setresgid -1 ID -1", "initgroups": "setgroups", "cap_set_proc": "capset",
-               "newuidmap": "write_uid_map", "newgidmap": "write_gid_map", "prctl": ", ".join(PRCTL.values())}
+               "newuidmap": "write_uid_map", "newgidmap": "write_gid_map", "seccomp": "install NAME ..",
+               "prctl": ", ".join(PRCTL.values())}
 
 
 @dataclass(frozen=True)
@@ -85,6 +86,9 @@ SCRIPT = (
     meant("argument", rb"\d+ +(setns|write_[a-z_]+) ", "the namespace isn't declared",
           "init, the name of a [[space]], or #N"),
     meant("argument", rb"\d+ +(securebits|keepcaps|no_new_privs) ", "that is no number", "decimal digits"),
+    meant("argument", rb"\d+ +install .*,", "names stand between blanks", "install setuid setgid = 0"),
+    meant("argument", rb"\d+ +install .*\bexit\b", "no filter that is installed excludes exit", "leave it out"),
+    meant("argument", rb"\d+ +install ", "that is none of the calls", 'docs/FORMATS.md, "Log", has their names'),
     meant("result", rb"\d+ +(fork|clone_user) ", "the result is the child's pid, or an error", "fork = 101"),
     meant("result", rb".* = -1", "the result is the error's name", "= EPERM"),
     meant("result", rb".* = E", "that error isn't one of the 17 that a log can have",

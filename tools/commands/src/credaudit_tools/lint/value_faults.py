@@ -194,7 +194,7 @@ def calls_bad(key: str, value: object) -> Iterator[Bad]:
         return
     for each in value:
         if each not in CALLS:
-            yield "NoSuchCall", f"{quoted(each)} is none of the 26 calls", call_hint(each)
+            yield "NoSuchCall", f"{quoted(each)} is none of the 27 calls", call_hint(each)
 
 
 def call_hint(name: str) -> str:

@@ -20,7 +20,7 @@ REQUIRED = {"whole": ("log",), "space": ("name", "parent", "owner"), "mount": ("
             "file": ("path", "uid", "gid", "mode"), "process": ("pid",), "filter": ()}
 CALLS = ("setuid setreuid setresuid setfsuid setgid setregid setresgid setfsgid setgroups capset bset_drop amb_raise"
          " amb_lower amb_clear securebits keepcaps no_new_privs fork clone_user unshare setns write_uid_map"
-         " write_gid_map write_setgroups execve exit").split()
+         " write_gid_map write_setgroups execve exit install").split()
 IDS = "uid = [real, effective, saved, fs], or one number for all four"
 GROUP_IDS = "gid = [real, effective, saved, fs], or one number for all four"
 # What is written for a key of another name, by table; the last row serves all.

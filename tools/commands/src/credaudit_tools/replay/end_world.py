@@ -2,7 +2,9 @@
 empty log. It is asked what the world and the log can't be: what the family can by its own calls, without files, and
 what another start would change.
 
-All of it is read from the report's own lines and from the world that was replayed.
+All of it is read from the report's own lines and from the world that was replayed. A world can't declare a process's
+own filter: what those of the whole family exclude stands in its [filter], and what only some of them exclude is taken
+to be permitted.
 """
 from collections.abc import Iterable, Mapping, Sequence
 from dataclasses import dataclass, field, replace
@@ -10,6 +12,7 @@ from dataclasses import dataclass, field, replace
 from ..formats.report import Report, Standing
 from ..formats.worlds import INITIAL, Map, Process, Space, World
 from ..system.namespaces import Extents
+from .own_filters import NOTHING, at_end as filters_at_end, shared
 from .spaces_of_report import SpaceTold, SpacesTold, at_end
 
 # Calls by which a process takes ids, groups, capabilities or user namespaces: what a strict filter would refuse.
@@ -116,24 +119,31 @@ def row_of(name: str, own: SpaceTold, spaces: SpacesTold, names: dict[str, str])
                  own.setfcap)
 
 
+def excluding(world: World, excluded: frozenset[str]) -> list[str] | None:
+    """What the world's filter excludes, and these calls; None where it has none."""
+    declared = world.exclude or []
+    return [*declared, *sorted(excluded - set(declared))] if excluded else world.exclude
+
+
 def end_with(world: World, family: Sequence[Standing], parents: Mapping[int, int | None], spaces: SpacesTold,
-             lineage: Iterable[int]) -> End:
+             lineage: Iterable[int], excluded: frozenset[str] = NOTHING) -> End:
     """The end where a family stands so, the asked process first and parents before their children, in these
-    namespaces. `parents` has the nearest living ancestor of each member but the first."""
+    namespaces. `parents` has the nearest living ancestor of each member but the first; `excluded` is what the filters
+    of all members exclude."""
     names = new_names(spaces)
     rows = [row_of(name, own, spaces, names) for name, own in spaces.named.items() if name != INITIAL]
     members = [Process(one.pid, one.credential, parents[one.pid] if place else None, names.get(one.space, one.space))
                for place, one in enumerate(family)]
-    made = World("script", rows, list(world.mounts), list(world.files), members, world.exclude)
+    made = World("script", rows, list(world.mounts), list(world.files), members, excluding(world, excluded))
     return End(made, tuple(family), spaces, names, frozenset(lineage))
 
 
 def end_of(world: World, read: Report, pid: int) -> End:
     """The end of an accepted replay, of the family of a process that lives then."""
     births, alive = births_of(world, read), read.alive()
-    family = births.family(pid)
+    family, filters = births.family(pid), filters_at_end(read.events)
     return end_with(world, [alive[each] for each in family], births.parents, at_end(read, world),
-                    births.lineage(family))
+                    births.lineage(family), shared(filters.get(each, NOTHING) for each in family))
 
 
 # ---- what would change -----------------------------------------------------------------------------------------------

@@ -12,6 +12,7 @@ from ..filters.filter_lines import INSTALLS, events_with_filter
 from ..formats.report import BIRTHS, Event, Report, Standing
 from ..formats.worlds import World
 from ..replay.end_world import End, end_with
+from ..replay.own_filters import NOTHING, installed, shared
 from ..replay.spaces_of_report import SpacesTold, of_world, succeeded
 
 # Calls that change the user namespaces themselves, and not only who stands in which.
@@ -21,13 +22,15 @@ SPACE_CALLS = ("unshare", "clone_user", "write_uid_map", "write_gid_map", "write
 @dataclass(eq=False)
 class Life:
     """A process from its birth to its end, None where it lives at the log's end. `seen` has what it was from a moment
-    on, a pair for each change. From `bound` on a line tells that the world's filter binds it."""
+    on, a pair for each change; `filters` likewise the calls that its own filter excludes, where it has one. From `bound`
+    on a line tells that the world's filter binds it."""
     pid: int
     maker: "Life | None" = None
     born: int = 0
     ended: int | None = None
     seen: list[tuple[int, Standing]] = field(default_factory=list)
     children: list["Life"] = field(default_factory=list)
+    filters: list[tuple[int, frozenset[str]]] = field(default_factory=list)
     bound: int | None = None
 
     def lives(self, moment: int) -> bool:
@@ -37,6 +40,17 @@ class Life:
     def at(self, moment: int) -> Standing:
         """What it was at a moment at which it lives."""
         return self.seen[bisect_right(self.seen, moment, key=moment_of) - 1][1]
+
+    def filter_at(self, moment: int) -> frozenset[str]:
+        """The calls that its own filter excludes at a moment."""
+        at = bisect_right(self.filters, moment, key=moment_of)
+        return self.filters[at - 1][1] if at else NOTHING
+
+    def installs(self, names: frozenset[str], moment: int) -> None:
+        """Its own filter excludes these calls too."""
+        before = self.filter_at(moment)
+        if names - before:
+            self.filters.append((moment, before | names))
 
     def shows(self, one: Standing, moment: int) -> None:
         """What a report shows of it after an event."""
@@ -127,16 +141,14 @@ class Walk:
                    for each in family}
         lineage = {above.pid for each in family for above in (each, *each.forebears())}
         return end_with(self.world_at(life, moment), [each.at(moment) for each in family], parents,
-                        self.spaces_at(moment), lineage)
+                        self.spaces_at(moment), lineage, shared(each.filter_at(moment) for each in family))
 
     def changes(self, life: Life) -> list[int]:
         """The moments at which the family of a process may become another one: a credential of a member, a birth, an
-        exit, a user namespace, the world's filter. The first is that of its own birth.
-
-        Filters that processes install belong here too, once a replay has them."""
+        exit, a user namespace, a filter that is installed, the world's filter. The first is that of its own birth."""
         found = {life.born, *(moment for moment, _ in self.spaces), *([self.last] if self.world.exclude else [])}
         for each in life.descendants():
-            found.update(moment for moment, _ in each.seen)
+            found.update(moment for moment, _ in (*each.seen, *each.filters))
             found.update(moment for moment in (each.ended, each.bound) if moment is not None)
         return sorted(moment for moment in found if life.lives(moment))
 
@@ -165,6 +177,7 @@ def walked(world: World, report: Report, log: bytes = b"") -> Walk:
     def begins(pid: int, maker: int | None, moment: int) -> None:
         above = None if maker is None else living.get(maker)
         life = living[pid] = Life(pid, above, moment)
+        life.installs(NOTHING if above is None else above.filter_at(moment), moment)
         walk.lives.append(life)
         if above is not None:
             above.children.append(life)
@@ -185,6 +198,8 @@ def walked(world: World, report: Report, log: bytes = b"") -> Walk:
         if event.call in SPACE_CALLS and succeeded(event):
             spaces.turn(event, None if before is None else before.seen[-1][1])
             walk.spaces.append((moment, copied(spaces)))
+        if before is not None:
+            before.installs(installed(event), moment)
         if event.call in BIRTHS and event.result.isdigit():
             begins(int(event.result), event.pid, moment)
         shown(event.after, moment)
