@@ -1,4 +1,4 @@
-use Rattle.std.proofs.Common.{◌≡◌, true, false}
+use Rattle.std.proofs.Common.{◌≡◌, true, false, sym, ◌∙◌}
 use Rattle.cm_filter.specs.Filters.{permits}
 use Rattle.cm_script.proofs.OwnArguments.{all_taken, kind_passed, kind_taken}
 use Rattle.cm_script.proofs.own.lists.after_kinds.Goals as goal
@@ -13,12 +13,12 @@ loop-kind-preserved c = λ w end more.
     let kind = c.kind-item.result in
     elim c.if-not-permits.branch [
       | then-not-permits+in_ok-rest b ↦
-          let out : permits f kind ≡ false = cc in
+          let out : permits f kind ≡ false = sym c.permits.ensures ∙ b.if-not-permits.true in
           c.loop-kind.invariant w end
           (kind_taken w f c.all-kinds.result.now c.loop-kind.kind-index kind c.loop-kind.rest.now b.in_ok-rest.rest.now end
           c.loop-kind-test.true c.kind-item.is out (b.in_ok-rest.ensures w) (rw b.rest-is at more))
       | else-not-permits b ↦
-          let may : permits f kind ≡ true = cc in
+          let may : permits f kind ≡ true = sym c.permits.ensures ∙ b.if-not-permits.false in
           c.loop-kind.invariant w end
           (kind_passed w f c.all-kinds.result.now c.loop-kind.kind-index kind c.loop-kind.rest.now end
           c.loop-kind-test.true c.kind-item.is may (rw b.rest-is at more))
