@@ -4,7 +4,7 @@ ghost use Rattle.cm_machine.specs.Asking.{OfCaller, filtered, is_excluded};
 ghost use Rattle.cm_nscalls.specs.Answers.{res_of};
 ghost use Rattle.cm_state.specs.Call.{call_of};
 ghost use Rattle.model_cred.specs.Process.{Process};
-ghost use Rattle.model_rules.specs.Install.{install as model_install, with_installed};
+ghost use Rattle.model_rules.specs.Install.{install as model_install, may_install as model_may_install, with_installed};
 ghost use Rattle.model_run.specs.Own.{shared_filter};
 
 use cm_base::{Cap, Errno, Pid};
@@ -26,11 +26,18 @@ pub(crate) fn is_excluded(procs: &Procs, at: usize, call: &Call) -> bool
 pub(crate) fn may_install(c: &Cred) -> Result<(), Errno>
     ensures { res_of result ≡ (model_install c.now).res }
 {
-    if c.nnp || c.eff.holds(Cap::SYS_ADMIN) {
+    if has_leave(c) {
         Ok(())
     } else {
         Err(Errno::EACCES)
     }
+}
+
+// No_new_privs is set, or the caller has CAP_SYS_ADMIN.
+fn has_leave(c: &Cred) -> bool
+    ensures { result ≡ model_may_install c.now }
+{
+    c.nnp || c.eff.holds(Cap::SYS_ADMIN)
 }
 
 /// The process at this place installs the filter.
