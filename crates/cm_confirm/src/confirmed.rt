@@ -6,7 +6,8 @@ use cm_base::{Limited, Pid};
 pub enum Confirmed {
     /// It is a later run, and this is the least of the members that hold the right at its end.
     Confirms(Pid),
-    /// The line of that number has a fault, or its event is no member's, is excluded by the world's filter, or is no step.
+    /// The line of that number has a fault, or its event is no member's, is excluded by the world's filter or the
+    /// caller's own, or is no step.
     RefusesLine(u64),
     /// No member holds the right at its end.
     RefusesEnd,

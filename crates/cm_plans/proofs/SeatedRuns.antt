@@ -15,8 +15,16 @@ use Rattle.model_cred.specs.Space.{Spaces}
 use Rattle.model_run.proofs.Filters.{filter_found}
 use Rattle.model_plans.specs.Move.{Move, Seat, Setting, seat_of}
 use Rattle.model_plans.specs.PlanRun.{Found, PlanRun, setting_in}
-use Rattle.model_plans.specs.Walk.{events_of, found_at, found_for}
+use Rattle.model_plans.specs.Walk.{events_of, found_at, found_for, moves_found}
 use Rattle.model_plans.proofs.Walks.{walk_run, dead_run}
+
+-- ---- what these moves find
+pub found_moving : (q : Setting) (pid : ℕ) (seat : Seat) (moves : List Move) (run : List Event) → Some moves ≡ moves_found q seat
+    → run ≡ events_of q pid seat moves → Some (record { run = run; holder = pid }) ≡ found_at q pid seat
+found_moving q pid seat moves run first is =
+    let found : List Event → Option Found = λ run. Some (record { run = run; holder = pid }) in
+    let by : List Move → Found = λ moves. record { run = events_of q pid seat moves; holder = pid } in
+    ap found is ∙ ap (option_map by) first
 
 -- ---- the setting of its moves
 module _ (q : Query) (s : State) (pid : ℕ) (moving : IsFor q s pid) where

@@ -23,7 +23,7 @@ pub(crate) fn becoming_uid(q: &Query<'_>, seat: &Seat, id: Option<u32>) -> Optio
 {
     let s = q.spaces.standing(seat.space);
     match inside(&s.uids, seat.cred.euid.number(), id) {
-        Some(inside) => uid_call(q.may, inside),
+        Some(inside) => uid_call(&q.may, inside),
         None => None,
     }
 }
@@ -36,7 +36,7 @@ pub(crate) fn becoming_gid(q: &Query<'_>, seat: &Seat, id: Option<u32>) -> Optio
 {
     let s = q.spaces.standing(seat.space);
     match inside(&s.gids, seat.cred.egid.number(), id) {
-        Some(inside) => gid_call(q.may, inside),
+        Some(inside) => gid_call(&q.may, inside),
         None => None,
     }
 }
@@ -62,8 +62,8 @@ pub(crate) fn up(map: &Option<IdMap>, id: u32) -> Option<u32>
 }
 
 // The first permitted call that makes an inside id the effective user id.
-fn uid_call(f: May, id: u32) -> Option<Call>
-    ensures call { option_map told result ≡ find (λ c. may_do f (kind_of c)) (uid_calls id) }
+fn uid_call(f: &May, id: u32) -> Option<Call>
+    ensures call { option_map told result ≡ find (λ c. may_do f.now (kind_of c)) (uid_calls id) }
     ensures walks { (spaces : ModelSpaces) → IfSome result (λ call. IsOfWalk spaces (told call)) }
 {
     if f.permits(CallKind::SetResUid) {
@@ -72,12 +72,12 @@ fn uid_call(f: May, id: u32) -> Option<Call>
     if f.permits(CallKind::SetReUid) {
         return Some(Call::SetReUid(MINUS_ONE, id));
     }
-    if_permitted(f, CallKind::SetUid, Call::SetUid(id))
+    if_permitted(*f, CallKind::SetUid, Call::SetUid(id))
 }
 
 // The first permitted call that makes an inside id the effective group id.
-fn gid_call(f: May, id: u32) -> Option<Call>
-    ensures call { option_map told result ≡ find (λ c. may_do f (kind_of c)) (gid_calls id) }
+fn gid_call(f: &May, id: u32) -> Option<Call>
+    ensures call { option_map told result ≡ find (λ c. may_do f.now (kind_of c)) (gid_calls id) }
     ensures walks { (spaces : ModelSpaces) → IfSome result (λ call. IsOfWalk spaces (told call)) }
 {
     if f.permits(CallKind::SetResGid) {
@@ -86,5 +86,5 @@ fn gid_call(f: May, id: u32) -> Option<Call>
     if f.permits(CallKind::SetReGid) {
         return Some(Call::SetReGid(MINUS_ONE, id));
     }
-    if_permitted(f, CallKind::SetGid, Call::SetGid(id))
+    if_permitted(*f, CallKind::SetGid, Call::SetGid(id))
 }

@@ -1,5 +1,5 @@
 -- Lists that are read item by item: what was read, and what the rest gives.
-use Rattle.std.proofs.Common.{◌≡◌, ℕ, ◌+◌, ◌<◌, Bool, true, false, List, [], ◌∷◌, ◌++◌, Option, Some, Result, Ok, Err, refl, sym, ap, ◌∙◌}
+use Rattle.std.proofs.Common.{◌≡◌, ℕ, ◌+◌, ◌<◌, Bool, true, false, List, [], ◌∷◌, ◌++◌, Option, Some, Result, Ok, Err, refl, ap, ◌∙◌}
 use Rattle.std.proofs.Common.{append_assoc, inl, inr, drop, filter, get_or, length}
 use Rattle.std.proofs.lemmas.Bool.{cond-true, cond-false}
 use Rattle.std.proofs.lemmas.List.{drop_more}
@@ -60,21 +60,18 @@ extents_step place (a ∷ b ∷ c ∷ tokens) rest e is =
     ]
 
 -- ---- items that pass a test
--- what is left of a list from a place on, as the item there and the rest
-next_of : {A : Type 0} → (list : List A) (k : ℕ) (item : A) → k < length list → item ≡ get_or list k item
-    → drop k list ≡ item ∷ drop (k + 1) list
-next_of {A} list k item below is = drop_more list k item below ∙ ap (λ (head : A). head ∷ drop (k + 1) list) (sym is)
-
--- an item that passes stands before those that are left
-pub passing_next : {A : Type 0} (p : A → Bool) (list : List A) (k : ℕ) (item : A) → k < length list → item ≡ get_or list k item → p item ≡ true
-    → filter p (drop k list) ≡ item ∷ filter p (drop (k + 1) list)
-passing_next p list k item below is passes =
-    ap (filter p) (next_of list k item below is)
+-- one that passes stands before those that are left
+pub passing_next : {A : Type 0} (p : A → Bool) (list : List A) (k : ℕ) (other : A) → k < length list → p (get_or list k other) ≡ true
+    → filter p (drop k list) ≡ get_or list k other ∷ filter p (drop (k + 1) list)
+passing_next p list k other below passes =
+    let item = get_or list k other in
+    ap (filter p) (drop_more list k other below)
     ∙ cond-true (p item) (item ∷ filter p (drop (k + 1) list)) (filter p (drop (k + 1) list)) passes
 
 -- another doesn't
-pub failing_next : {A : Type 0} (p : A → Bool) (list : List A) (k : ℕ) (item : A) → k < length list → item ≡ get_or list k item → p item ≡ false
+pub failing_next : {A : Type 0} (p : A → Bool) (list : List A) (k : ℕ) (other : A) → k < length list → p (get_or list k other) ≡ false
     → filter p (drop k list) ≡ filter p (drop (k + 1) list)
-failing_next p list k item below is fails =
-    ap (filter p) (next_of list k item below is)
+failing_next p list k other below fails =
+    let item = get_or list k other in
+    ap (filter p) (drop_more list k other below)
     ∙ cond-false (p item) (item ∷ filter p (drop (k + 1) list)) (filter p (drop (k + 1) list)) fails

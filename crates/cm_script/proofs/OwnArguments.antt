@@ -100,25 +100,26 @@ taken_filter w kind text call filter rest small is made all = record {
 
 -- ---- kinds of a filter
 -- one that the filter excludes stands before those that are left
-pub kind_taken : (w : World) (f : Filter) (kinds : List CallKind) (k : ℕ) (kind : CallKind) (text mid end : List ℕ) → k < length kinds
-    → kind ≡ get_or kinds k kind → permits f kind ≡ false → Takes w text (Kind kind) mid
+pub kind_taken : (w : World) (f : Filter) (kinds : List CallKind) (k : ℕ) (other : CallKind) (text mid end : List ℕ) → k < length kinds
+    → permits f (get_or kinds k other) ≡ false → Takes w text (Kind (get_or kinds k other)) mid
     → TakesAll w mid (map Kind (filter (excludes f) (drop (k + 1) kinds))) end → TakesAll w text (map Kind (filter (excludes f) (drop k kinds))) end
-kind_taken w f kinds k kind text mid end below is excluded one more =
+kind_taken w f kinds k other text mid end below excluded one more =
+    let kind = get_or kinds k other in
     subst (λ (left : List CallKind). TakesAll w text (map Kind left) end)
-    (sym (passing_next (excludes f) kinds k kind below is (held (excludes f kind) excluded)))
+    (sym (passing_next (excludes f) kinds k other below (held (excludes f kind) excluded)))
     (takes_more w text mid end (Kind kind) (map Kind (filter (excludes f) (drop (k + 1) kinds))) one more)
   where
     held : (b : Bool) → not b ≡ false → b ≡ true
     held true e = refl
     held false e = absurd (cc)
 
--- another isn't looked for
-pub kind_passed : (w : World) (f : Filter) (kinds : List CallKind) (k : ℕ) (kind : CallKind) (text end : List ℕ) → k < length kinds
-    → kind ≡ get_or kinds k kind → permits f kind ≡ true
+-- another doesn't
+pub kind_passed : (w : World) (f : Filter) (kinds : List CallKind) (k : ℕ) (other : CallKind) (text end : List ℕ) → k < length kinds
+    → permits f (get_or kinds k other) ≡ true
     → TakesAll w text (map Kind (filter (excludes f) (drop (k + 1) kinds))) end → TakesAll w text (map Kind (filter (excludes f) (drop k kinds))) end
-kind_passed w f kinds k kind text end below is permitted more =
+kind_passed w f kinds k other text end below permitted more =
     subst (λ (left : List CallKind). TakesAll w text (map Kind left) end)
-    (sym (failing_next (excludes f) kinds k kind below is (free (excludes f kind) permitted))) more
+    (sym (failing_next (excludes f) kinds k other below (free (excludes f (get_or kinds k other)) permitted))) more
   where
     free : (b : Bool) → not b ≡ true → b ≡ false
     free true e = absurd (cc)

@@ -60,24 +60,27 @@ abbrev pub kinds_from : World → Filter → List CallKind → ℕ → List ℕ
 kinds_from w f kinds k = spaced_texts w (map Kind (filter (excludes f) (drop k kinds)))
 
 -- one that it excludes was written
-pub name_put : (w : World) (f : Filter) (kinds : List CallKind) (k : ℕ) (kind : CallKind) (old new : List ℕ) → k < length kinds
-    → kind ≡ get_or kinds k kind → permits f kind ≡ false → Appends old new (32 ∷ call_name kind)
+pub name_put : (w : World) (f : Filter) (kinds : List CallKind) (k : ℕ) (other : CallKind) (old new : List ℕ) → k < length kinds
+    → permits f (get_or kinds k other) ≡ false → Appends old new (32 ∷ call_name (get_or kinds k other))
     → new ++ kinds_from w f kinds (k + 1) ≡ old ++ kinds_from w f kinds k
-name_put w f kinds k kind old new below is excluded put =
+name_put w f kinds k other old new below excluded put =
+    let kind = get_or kinds k other in
     ap (λ (t : List ℕ). t ++ kinds_from w f kinds (k + 1)) put
     ∙ append_assoc old (32 ∷ call_name kind) (kinds_from w f kinds (k + 1))
-    ∙ ap (λ (left : List CallKind). old ++ spaced_texts w (map Kind left)) (sym (passing_next (excludes f) kinds k kind below is (held (excludes f kind) excluded)))
+    ∙ ap (λ (left : List CallKind). old ++ spaced_texts w (map Kind left))
+    (sym (passing_next (excludes f) kinds k other below (held (excludes f kind) excluded)))
   where
     held : (b : Bool) → not b ≡ false → b ≡ true
     held true e = refl
     held false e = absurd (cc)
 
 -- one that it permits is passed over
-pub name_passed : (w : World) (f : Filter) (kinds : List CallKind) (k : ℕ) (kind : CallKind) (old : List ℕ) → k < length kinds
-    → kind ≡ get_or kinds k kind → permits f kind ≡ true
+pub name_passed : (w : World) (f : Filter) (kinds : List CallKind) (k : ℕ) (other : CallKind) (old : List ℕ) → k < length kinds
+    → permits f (get_or kinds k other) ≡ true
     → old ++ kinds_from w f kinds (k + 1) ≡ old ++ kinds_from w f kinds k
-name_passed w f kinds k kind old below is permitted =
-    ap (λ (left : List CallKind). old ++ spaced_texts w (map Kind left)) (sym (failing_next (excludes f) kinds k kind below is (free (excludes f kind) permitted)))
+name_passed w f kinds k other old below permitted =
+    ap (λ (left : List CallKind). old ++ spaced_texts w (map Kind left))
+    (sym (failing_next (excludes f) kinds k other below (free (excludes f (get_or kinds k other)) permitted)))
   where
     free : (b : Bool) → not b ≡ true → b ≡ false
     free true e = absurd (cc)

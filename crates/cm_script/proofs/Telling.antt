@@ -164,13 +164,16 @@ kind_before filter kind number (Ok arguments) = by (kinds_in arguments) where
 kinds_from : (w : World) (filter : Filter) (place : ℕ) (tokens : Tokens) → kinds_told filter place tokens ≡ as_filter filter (arguments_from w Kinds place tokens)
 unfolding as_filter
 kinds_from w filter place [] = refl
-kinds_from w filter place (t ∷ tokens) = by_first (kind_token t) where
-  by_first : (first : Option CallKind)
-      → and_then (taken first place tokens) (λ (kind : CallKind × Tokens). kinds_told (excluding filter kind.0) (place + 1) tokens)
-      ≡ as_filter filter (argument_before (place + 1) (option_map Kind first) (arguments_from w Kinds (place + 1) tokens))
-  by_first None = refl
-  by_first (Some kind) =
-      kinds_from w (excluding filter kind) (place + 1) tokens ∙ kind_before filter kind (place + 1) (arguments_from w Kinds (place + 1) tokens)
+kinds_from w filter place (t ∷ tokens) =
+    by_first (kind_token t) (λ (kind : CallKind). kinds_from w (excluding filter kind) (place + 1) tokens) where
+      by_first : (first : Option CallKind)
+          → ((kind : CallKind) → kinds_told (excluding filter kind) (place + 1) tokens
+          ≡ as_filter (excluding filter kind) (arguments_from w Kinds (place + 1) tokens))
+          → and_then (taken first place tokens) (λ (kind : CallKind × Tokens). kinds_told (excluding filter kind.0) (place + 1) tokens)
+          ≡ as_filter filter (argument_before (place + 1) (option_map Kind first) (arguments_from w Kinds (place + 1) tokens))
+      by_first None rest = refl
+      by_first (Some kind) rest =
+          rest kind ∙ kind_before filter kind (place + 1) (arguments_from w Kinds (place + 1) tokens)
 
 -- the install that they tell
 install_read : (read : Result (List Argument) ℕ) → call_read kind.Install read ≡ and_make model.Install (as_filter no_filter read)

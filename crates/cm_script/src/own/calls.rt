@@ -9,7 +9,7 @@ ghost use Rattle.cm_state.specs.Call.{call_of};
 ghost use Rattle.model_cred.specs.World as worlds;
 
 use super::arguments::{own_cap, own_file, own_id, own_number, own_set, own_space, own_word};
-use super::lists::{own_extents, own_ids, own_kinds};
+use super::lists::{after_kinds, named_filter, own_extents, own_ids};
 use super::pieces::take_word;
 use cm_base::CapWord;
 use cm_declared::World;
@@ -127,10 +127,9 @@ fn take_filter(kind: CallKind, text: &[u8]) -> Option<(Call, &[u8])>
     requires { shape_of kind ≡ Shape.ManyKinds }
     ensures { (w : worlds.World) → IfSome result (λ p. TakesCall w kind text.now (call_of p.0) p.1.now) }
 {
-    match own_kinds(text) {
-        Some((filter, rest)) => Some((Call::with_filter(kind, filter), rest)),
-        None => None,
-    }
+    let filter = named_filter(text);
+    let rest = after_kinds(text, filter)?;
+    Some((Call::with_filter(kind, filter), rest))
 }
 
 // A call with three sets.

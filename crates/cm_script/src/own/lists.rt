@@ -49,19 +49,8 @@ pub(crate) fn own_extents(alloc: Global, text: &[u8]) -> Option<(Vec<Extent>, &[
     Some((list, rest))
 }
 
-/// The filter whose kinds stand in front of a text, in their order, and what follows them.
-pub(crate) fn own_kinds(text: &[u8]) -> Option<(Filter, &[u8])>
-    ensures taken { (w : worlds.World) → IfSome result (λ p.
-        TakesAll w text.now (map Kind (excluded_kinds p.0)) p.1.now) }
-    ensures filter { IfSome result (λ p. IsFilter p.0) }
-{
-    let filter = named_filter(text);
-    let rest = after_kinds(text, filter)?;
-    Some((filter, rest))
-}
-
-// The filter that excludes the calls of the names in front of a text, in whatever order.
-fn named_filter(text: &[u8]) -> Filter
+/// The filter that excludes the calls of the names in front of a text, in whatever order.
+pub(crate) fn named_filter(text: &[u8]) -> Filter
     ensures { IsFilter result }
 {
     let mut filter = Filter::none();
@@ -80,8 +69,8 @@ fn next_kind(text: &[u8]) -> Option<(CallKind, &[u8])>
     take_kind(after_blank(text)?)
 }
 
-// What follows the names of all kinds that the filter excludes, where these stand in front of a text in their order.
-fn after_kinds(text: &[u8], filter: Filter) -> Option<&[u8]>
+/// What follows the names of all kinds that the filter excludes, where these stand in front of a text in their order.
+pub(crate) fn after_kinds(text: &[u8], filter: Filter) -> Option<&[u8]>
     ensures { (w : worlds.World) → IfSome result (λ rest.
         TakesAll w text.now (map Kind (excluded_kinds filter)) rest.now) }
 {

@@ -1,4 +1,4 @@
-use Rattle.std.proofs.Common.{Some, None}
+use Rattle.std.proofs.Common.{◌≡◌, ℕ, ◌+◌, List, ◌∷◌, Some, None, drop, sym, ap, ◌∙◌}
 use Rattle.std.proofs.lemmas.List.{drop_more}
 use Rattle.cm_plans.proofs.Questions.{all_before, same_then, steps_before, still_beside, still_ready, still_stands, stood_before}
 use Rattle.cm_plans.proofs.Stepping.{step_end, step_given, step_over}
@@ -25,9 +25,9 @@ returns-in_err-run-clause-question c = same_then c.args.q.now c.loop-run.q c.run
 pub returns-in-Some-clause-steps : goal.returns-in-Some-clause-steps
 returns-in-Some-clause-steps c =
     step_given c.args.q.now c.args.st.now c.args.members.now c.args.at.now c.loop-run.at c.loop-run.invariant.begun c.run_next.new.t
-    c.in-Some.run.items c.loop-run.invariant.left
+    c.in-Some.run'.items c.loop-run.invariant.left
     (steps_before c.args.q.now c.loop-run.q c.loop-run.invariant.question c.args.st.now (λ (right : Right). left_in right c.loop-run.at.turn)
-    (Some c.in-Some.run.items) (λ (right : Right). left_in right c.run_next.new.t) (rw c.in-Some.is at c.in_ok-run.ensures.steps))
+    (Some c.in-Some.run'.items) (λ (right : Right). left_in right c.run_next.new.t) (rw c.in-Some.is at c.in_ok-run.ensures.steps))
 
 pub returns-in-Some-clause-stand : goal.returns-in-Some-clause-stand
 returns-in-Some-clause-stand c = stood_before c.args.q.now c.loop-run.q c.loop-run.invariant.question c.run_next.new.t c.in_ok-run.ensures.stand
@@ -69,11 +69,16 @@ pub loop-run-preserved : goal.loop-run-preserved
 loop-run-preserved c =
     let same : IsSameQuestion c.args.q.now c.run_next.new.q
     = same_then c.args.q.now c.loop-run.q c.run_next.new.q c.loop-run.invariant.question c.in_ok-run.ensures.question in
+    let members : List ℕ = c.args.members.now in
+    let at : ℕ = c.loop-run.at.next in
+    let next : drop at members ≡ c.index-members-at.result ∷ drop (at + 1) members
+    = drop_more members at c.index-members-at.result c.if-at-members.false
+    ∙ ap (λ (pid : ℕ). pid ∷ drop (at + 1) members) (sym c.index-members-at.is) in
     record {
       begun = c.loop-run.invariant.begun;
       left =
           step_over c.args.q.now c.args.st.now c.args.members.now c.args.at.now c.loop-run.at c.loop-run.invariant.begun c.run_next.new.t
-          c.in_ok-turn.turn _ (drop_more c.args.members.now c.loop-run.at.next 0 c.if-at-members.false) c.loop-run.invariant.left
+          c.in_ok-turn.turn _ next c.loop-run.invariant.left
           (steps_before c.args.q.now c.loop-run.q c.loop-run.invariant.question c.args.st.now
           (λ (right : Right). left_in right c.loop-run.at.turn) None (λ (right : Right). left_in right c.run_next.new.t)
           (rw c.in-None.is at c.in_ok-run.ensures.steps))

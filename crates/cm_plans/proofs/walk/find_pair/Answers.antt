@@ -8,6 +8,9 @@ use Rattle.cm_plans.specs.Moves.{setting}
 use Rattle.model_plans.specs.Plan.{Choice, pairs, run_two}
 use Rattle.model_plans.specs.Walk.{middle_found}
 
+pub find_pair_of-requires-clause-tried : goal.find_pair_of-requires-clause-tried
+find_pair_of-requires-clause-tried c = rw c.loop-first.invariant.same c.loop-first.invariant.tried
+
 pub returns-in-Some-clause-found : goal.returns-in-Some-clause-found
 returns-in-Some-clause-found c =
     let q = setting c.args.q.now in

@@ -7,6 +7,14 @@ use Rattle.model_plans.specs.Move.{Seat, RunFile}
 use Rattle.model_plans.specs.Plan.{run_row}
 use Rattle.model_plans.specs.Walk.{middle_found}
 
+pub find_new-found-requires-clause-tried : goal.find_new-found-requires-clause-tried
+find_new-found-requires-clause-tried c = λ k d below t same alike.
+    c.requires.tried k d below t (same ∙ c.make.ensures.groups) alike
+
+pub returns-clause-tried : goal.returns-clause-tried
+returns-clause-tried c = λ k d below t same alike.
+    c.find_new-found.ensures.tried k d below t (same ∙ sym c.make.ensures.groups) alike
+
 pub returns-clause-found : goal.returns-clause-found
 returns-clause-found c =
     let q = setting c.args.q.now in

@@ -1,6 +1,5 @@
-use Rattle.std.proofs.Common.{◌≡◌, ◌∙◌, true, false, sym}
+use Rattle.std.proofs.Common.{◌∙◌, sym}
 use Rattle.cm_declared.specs.World.{world_of}
-use Rattle.cm_filter.specs.Filters.{permits}
 use Rattle.cm_script.proofs.Putting.{kinds_put, name_passed, name_put}
 use Rattle.cm_script.proofs.writing.put_kinds.Goals as goal
 use Rattle.cm_script.proofs.writing.put_kinds.Goals.{then-not-permits+in_ok-put_name, else-not-permits}
@@ -9,18 +8,15 @@ pub loop-kind-preserved : goal.loop-kind-preserved
 loop-kind-preserved c =
     let w = world_of c.args.w.now in
     let f = c.args.filter in
-    let kind = c.kind-item.result in
     elim c.if-not-permits.branch [
       | then-not-permits+in_ok-put_name b ↦
-          let out : permits f kind ≡ false = sym c.permits.ensures ∙ b.if-not-permits.true in
           rw b.text-is
-          (name_put w f c.all-kinds.result.now c.loop-kind.kind-index kind c.loop-kind.text.items b.put_name.new.text.items
-          c.loop-kind-test.true c.kind-item.is out b.in_ok-put_name.ensures ∙ c.loop-kind.invariant)
+          (name_put w f c.all-kinds.result.now c.loop-kind.kind-index _ c.loop-kind.text.items b.put_name.new.text.items
+          c.loop-kind-test.true (sym c.permits.ensures ∙ b.if-not-permits.true) b.in_ok-put_name.ensures ∙ c.loop-kind.invariant)
       | else-not-permits b ↦
-          let may : permits f kind ≡ true = sym c.permits.ensures ∙ b.if-not-permits.false in
           rw b.text-is
-          (name_passed w f c.all-kinds.result.now c.loop-kind.kind-index kind c.loop-kind.text.items
-          c.loop-kind-test.true c.kind-item.is may ∙ c.loop-kind.invariant)
+          (name_passed w f c.all-kinds.result.now c.loop-kind.kind-index _ c.loop-kind.text.items
+          c.loop-kind-test.true (sym c.permits.ensures ∙ b.if-not-permits.false) ∙ c.loop-kind.invariant)
     ]
 
 pub returns : goal.returns

@@ -22,8 +22,8 @@ SPACE_CALLS = ("unshare", "clone_user", "write_uid_map", "write_gid_map", "write
 @dataclass(eq=False)
 class Life:
     """A process from its birth to its end, None where it lives at the log's end. `seen` has what it was from a moment
-    on, a pair for each change; `filters` likewise the calls that its own filter excludes, where it has one. From `bound`
-    on a line tells that the world's filter binds it."""
+    on, a pair for each change; `filters` likewise the calls that its own filter excludes, where it has one. From
+    `bound` on a line tells that the world's filter binds it."""
     pid: int
     maker: "Life | None" = None
     born: int = 0

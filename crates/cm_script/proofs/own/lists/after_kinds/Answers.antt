@@ -1,5 +1,4 @@
-use Rattle.std.proofs.Common.{◌≡◌, true, false, sym, ◌∙◌}
-use Rattle.cm_filter.specs.Filters.{permits}
+use Rattle.std.proofs.Common.{sym, ◌∙◌}
 use Rattle.cm_script.proofs.OwnArguments.{all_taken, kind_passed, kind_taken}
 use Rattle.cm_script.proofs.own.lists.after_kinds.Goals as goal
 use Rattle.cm_script.proofs.own.lists.after_kinds.Goals.{then-not-permits+in_ok-rest, else-not-permits}
@@ -10,18 +9,15 @@ loop-kind-init c = λ w end more. more
 pub loop-kind-preserved : goal.loop-kind-preserved
 loop-kind-preserved c = λ w end more.
     let f = c.args.filter in
-    let kind = c.kind-item.result in
     elim c.if-not-permits.branch [
       | then-not-permits+in_ok-rest b ↦
-          let out : permits f kind ≡ false = sym c.permits.ensures ∙ b.if-not-permits.true in
           c.loop-kind.invariant w end
-          (kind_taken w f c.all-kinds.result.now c.loop-kind.kind-index kind c.loop-kind.rest.now b.in_ok-rest.rest.now end
-          c.loop-kind-test.true c.kind-item.is out (b.in_ok-rest.ensures w) (rw b.rest-is at more))
+          (kind_taken w f c.all-kinds.result.now c.loop-kind.kind-index _ c.loop-kind.rest.now b.in_ok-rest.rest.now end
+          c.loop-kind-test.true (sym c.permits.ensures ∙ b.if-not-permits.true) (b.in_ok-rest.ensures w) (rw b.rest-is at more))
       | else-not-permits b ↦
-          let may : permits f kind ≡ true = sym c.permits.ensures ∙ b.if-not-permits.false in
           c.loop-kind.invariant w end
-          (kind_passed w f c.all-kinds.result.now c.loop-kind.kind-index kind c.loop-kind.rest.now end
-          c.loop-kind-test.true c.kind-item.is may (rw b.rest-is at more))
+          (kind_passed w f c.all-kinds.result.now c.loop-kind.kind-index _ c.loop-kind.rest.now end
+          c.loop-kind-test.true (sym c.permits.ensures ∙ b.if-not-permits.false) (rw b.rest-is at more))
     ]
 
 pub returns : goal.returns
