@@ -16,6 +16,7 @@ from credaudit_tools.filters.bpf import Instruction, Program
 from credaudit_tools.filters.log_filters import Filter
 from credaudit_tools.formats import worlds
 from credaudit_tools.formats.credential import Credential
+from credaudit_tools.formats.report import Event
 from credaudit_tools.formats.statuses import Status
 from credaudit_tools.judge.program_questions import Files as Paths
 from credaudit_tools.kernel_filters import filter_evidence, shown_filters
@@ -23,7 +24,7 @@ from credaudit_tools.kernel_filters.filter_look import FilterLook
 from credaudit_tools.kernel_filters.shown_filters import Shown
 from credaudit_tools.replay import recording
 from credaudit_tools.strace_log.followed_processes import UNKNOWN, Files, Place, Task
-from credaudit_tools.summary.summary import Given, of_filters
+from credaudit_tools.summary.summary import BY_HAND, Given, of_filters
 from credaudit_tools.system import rings
 from credaudit_tools.system.proc import Proc
 from credaudit_tools.trace import live_processes
@@ -281,6 +282,7 @@ class Rings(Case):
 class OfAFamily(unittest.TestCase):
     """Filters that a world declares, against what the kernel showed of those of the family that is asked about."""
     WORLD = 'log = "strace"\n\n[[process]]\npid = 100\n\n[[process]]\npid = 200\n\n[filter]\nexclude = ["setuid"]\n'
+    NONE = "the world declares none, and the log installs none that a member has"
 
     def test_others_do_not_matter(self) -> None:
         world = worlds.read(self.WORLD.encode())
@@ -298,8 +300,25 @@ class OfAFamily(unittest.TestCase):
         kept = recording.Recording(self.WORLD.encode(), b"", [status(100, 1), status(101, 1), status(200, 0)])
         given = Given(Paths("", ""), world, self.WORLD.encode(), b"", Evidence(), kept)
         for pids, wanted in (((100, 101), 0), ((200,), 1), ((100, 200), 1)):
-            found = of_filters(given, pids)
+            found = of_filters(given, pids, [])
             self.assertIn(FILTERS, found.established)
             self.assertEqual(sum(each.premise == FILTERS for each in found.doubts), wanted, pids)
         world.exclude = None
-        self.assertEqual(of_filters(given, (100, 200)).established[FILTERS], "the world declares none")
+        self.assertEqual(of_filters(given, (100, 200), []).established[FILTERS], self.NONE)
+
+    def test_a_filter_that_the_log_installs(self) -> None:
+        """By hand it is the word of who wrote the log. No recorder writes one, so no kernel was asked about it."""
+        world = worlds.read(self.WORLD.encode())
+        refused, made = (Event(1, 100, "install", ("setuid",), result, ()) for result in ("EACCES", "0"))
+        for exclude, event, kept, established, doubts in (
+                (None, refused, False, self.NONE, 0), (None, made, False, BY_HAND, 0),
+                (["setuid"], made, False, BY_HAND, 0), (None, refused, True, self.NONE, 0), (None, made, True, None, 1),
+                (["setuid"], made, True, "the kernel showed as many filters for each of 1 member", 1)):
+            with self.subTest((exclude, event.result, kept)):
+                world.exclude = exclude
+                shown = recording.Recording(self.WORLD.encode(), b"", [status(100, 1)]) if kept else None
+                given = Given(Paths("", ""), world, self.WORLD.encode(), b"", Evidence(), shown)
+                found = of_filters(given, (100,), [event])
+                self.assertEqual(found.established.get(FILTERS), established)
+                self.assertEqual([each.why for each in found.doubts],
+                                 ["the log installs a filter that the kernel wasn't asked about"] * doubts)

@@ -184,6 +184,18 @@ class Whole(Case):
         self.assertIn("* scan: all programs with set-id bits or capabilities were looked for. Doubted: nothing"
                       " establishes it", lines)
 
+    def test_who_says_what_an_install_excludes(self) -> None:
+        """A world without [filter]. Of a family that has a filter, its own or by inheritance, it isn't said that there
+        is none."""
+        log = "100 no_new_privs 1 = 0\n100 install setuid = 0\n100 fork = 101\n101 fork = 102\n101 exit = 0\n"
+        names = self.names(WORLD + "[[process]]\npid = 200\nuid = 7\n", log)
+        none = "; the world declares none, and the log installs none that a member has"
+        for pid, more in (("100", ""), ("102", ""), ("200", none)):
+            with self.subTest(pid), mock.patch.object(summary_command, "Program", Plain):
+                _, out, _ = self.told(summary_command.main, *names, pid, "--why", "cap:CAP_KILL@init")
+                self.assertIn(f"for the process that makes it. Established: {summary.BY_HAND}{more} securebits: ",
+                              " ".join(out.split()))
+
     def test_a_child_had_what_its_ancestor_had(self) -> None:
         log = "100 fork = 101\n101 fork = 102\n101 exit = 0\n102 setresuid 5 5 5 = 0\n"
         _, out, _ = self.command(*self.names(WORLD, log), "102", "--classes", "-")

@@ -4,9 +4,16 @@ the program."""
 import unittest
 
 from credaudit_tools.command_line.command import FOUND, GOOD
+from credaudit_tools.evidence.evidence import Evidence
+from credaudit_tools.evidence.premises import FILTERS
+from credaudit_tools.judge.program_questions import Files
+from credaudit_tools.replay import recording
+from credaudit_tools.summary.summary import Given
+from credaudit_tools.timeline.lane_judge import seen
+from credaudit_tools.timeline.walk import walked
 
 from ..told_rows import space_row
-from .timeline_case import Case, Spans, spans_in
+from .timeline_case import Case, Spans, replayed, spans_in
 
 USER = 'log = "script"\n[[process]]\npid = 100\nuid = {}\ngid = 33\ngroups = [33]\n'
 BOTH = 'permitted = "CAP_NET_RAW,CAP_SYS_ADMIN"\neffective = "CAP_NET_RAW,CAP_SYS_ADMIN"\nno_new_privs = true\n'
@@ -49,6 +56,19 @@ class AtItsLine(Case):
         world = USER.format([33, 33, 33, 0]) + 'permitted = "none"\neffective = "none"\n'
         self.assertEqual(self.spans(world, "100 setfsuid 33 = 0\n100 keepcaps 1 = 0\n", "uid:0"),
                          [("doubted", 0), (LOST, 1)])
+
+    def test_an_install(self) -> None:
+        """Of a recording whose log has one, which no recorder writes, it stands against each class of the family."""
+        world, none = USER.format(33) + 'permitted = "none"\neffective = "none"\n', "100 keepcaps 1 = 0\n"
+        for log, doubted in ((none, False), ("100 no_new_privs 1 = 0\n100 install setuid = 0\n" + none, True)):
+            read_world, read = replayed(world, log)
+            kept = recording.Recording(world.encode(), log.encode(), [])
+            given = Given(Files("", ""), read_world, world.encode(), log.encode(), Evidence(), kept)
+            walk = walked(given.world, read, given.log)
+            life = walk.lives[0]
+            end = walk.family_world(life, walk.end(life))
+            found = seen(given, read, walk, life).evidence(walk, life, end)
+            self.assertEqual(any(each.premise == FILTERS for each in found.doubts), doubted)
 
     def test_a_row_of_the_kernel(self) -> None:
         """A map that isn't written yet, and then is: by another process."""

@@ -54,9 +54,10 @@ TABLE = (
             "a difference, a map whose writing couldn't be told"),
     Premise(FILTERS, "what [filter] of the world declares holds for every member, and what an install of the log"
             " excludes for the process that makes it",
-            "the world declares none; or the kernel showed as many filters for each member of the family that is asked"
-            " about",
-            "members with different filters, or a declared one that the kernel doesn't show"),
+            "the world declares none, and the log installs none that a member has; or the kernel showed as many filters"
+            " for each member of the family that is asked about",
+            "members with different filters, a declared one that the kernel doesn't show, or an install in the log of a"
+            " recording"),
     Premise(SECUREBITS, "no member has securebits by which it keeps more than in the replay",
             "the recorder: read before the start, or counted as 0, by which a member can get more; what a call set was"
             " shown by a later one, or no filter of its process could answer it",

@@ -90,6 +90,8 @@ SCRIPT = (
     meant("argument", rb"\d+ +install .*\bexit\b", "no filter that is installed excludes exit", "leave it out"),
     meant("argument", rb"\d+ +install ", "that is none of the calls", 'docs/FORMATS.md, "Log", has their names'),
     meant("result", rb"\d+ +(fork|clone_user) ", "the result is the child's pid, or an error", "fork = 101"),
+    meant("result", rb"\d+ +setfs[ug]id ", "the result is the id from before, or EPERM", "= 1000"),
+    meant("result", rb"\d+ +exit ", "the result of exit is 0 alone", "= 0"),
     meant("result", rb".* = -1", "the result is the error's name", "= EPERM"),
     meant("result", rb".* = E", "that error isn't one of the 17 that a log can have",
           "docs/FORMATS.md, \"Log\", has them"),

@@ -8,9 +8,14 @@ NOTHING = frozenset[str]()
 Filters = Mapping[int, frozenset[str]]
 
 
+def installs(event: Event) -> bool:
+    """Whether an event installs a filter."""
+    return event.call == "install" and event.result == "0"
+
+
 def installed(event: Event) -> frozenset[str]:
     """The calls that an event excludes for its caller from then on."""
-    return frozenset(event.arguments) if event.call == "install" and event.result == "0" else NOTHING
+    return frozenset(event.arguments) if installs(event) else NOTHING
 
 
 def at_end(events: Iterable[Event]) -> Filters:

@@ -10,7 +10,7 @@ from ..evidence import premises
 from ..evidence.evidence import Evidence
 from ..explain.explain import process_words
 from ..formats import worlds
-from ..formats.report import Report
+from ..formats.report import Event, Report
 from ..formats.rights import Right
 from ..formats.worlds import INITIAL, World
 from ..judge import class_output, groups_seen, holders, touched_rights
@@ -21,6 +21,7 @@ from ..judge.program_questions import Asking, Files
 from ..judge.touched_rights import Facts, facts_of
 from ..replay import scan_fits
 from ..replay.end_world import births_of, end_of
+from ..replay.own_filters import installs
 from ..replay.recording import FORMAT, MADE, Recording, altered
 from ..verify import verification
 from .join_scan import joined
@@ -133,26 +134,29 @@ def accepted(ask: Asking, given: Given) -> Report:
     return report
 
 
-def of_filters(given: Given, family: Iterable[int]) -> Evidence:
-    """What is known of the world's [filter] for the family of one process, by what the kernel showed of its filters."""
-    found, pids = Evidence(), set(family)
-    if given.world.exclude is None:
-        found.establish(premises.FILTERS, "the world declares none")
+def of_filters(given: Given, family: Iterable[int], events: Iterable[Event]) -> Evidence:
+    """What is known of the filters of one process's family: of the world's [filter], by what the kernel showed of those
+    of its members, and of what these events, its own and those of whom it descends from, install."""
+    found, pids, installed = Evidence(), set(family), any(installs(event) for event in events)
+    if given.world.exclude is None and not installed:
+        found.establish(premises.FILTERS, "the world declares none, and the log installs none that a member has")
     elif given.kept is None:
         found.establish(premises.FILTERS, BY_HAND)
-    else:
+    elif given.world.exclude is not None:
         own = [status for status in given.kept.statuses if status.pid in pids]
         found.establish(premises.FILTERS, f"the kernel showed as many filters for each of {plural(len(own), 'member')}")
         for each in world_doubts.filter_doubts(own, given.world):
             found.doubt(premises.FILTERS, each.why)
+    if installed and given.kept is not None:
+        found.doubt(premises.FILTERS, "the log installs a filter that the kernel wasn't asked about")
     return found
 
 
 def evidence_of(given: Given, facts: Facts, family: Iterable[int]) -> Evidence:
-    """The evidence for the family of one process: what goes for the whole, what the kernel showed of its filters, and
-    the rows of docs/KERNEL.md."""
+    """The evidence for the family of one process: what goes for the whole, what is known of its filters, and the rows
+    of docs/KERNEL.md."""
     found = given.evidence.copy()
-    found.add(of_filters(given, family))
+    found.add(of_filters(given, family, [each.event for each in facts.made]))
     if given.scan is not None and given.kept is not None and given.kept.made is not None:
         scan_fits.tell(found, given.kept.made.evidence, given.scan, family)
     touched_rights.tell(found, facts)

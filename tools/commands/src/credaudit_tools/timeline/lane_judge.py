@@ -20,6 +20,7 @@ from ..judge.classify import Family, Judge
 from ..judge.program_questions import Answer, right_in
 from ..judge.touched_rights import Facts, facts_of
 from ..replay.end_world import End, without_files
+from ..replay.own_filters import installs
 from ..summary.summary import Given, evidence_of
 from .remembering import Remembering
 from .walk import Life, Walk
@@ -27,8 +28,8 @@ from .walk import Life, Walk
 
 @dataclass
 class Seen:
-    """What the evidence of each lane is taken from, read once: the events that the rows of docs/KERNEL.md look at, and
-    those that show groups."""
+    """What the evidence of each lane is taken from, read once: the events that install filters or that the rows of
+    docs/KERNEL.md look at, and those that show groups."""
     given: Given
     facts: Facts
     groups: Report
@@ -82,7 +83,7 @@ def seen(given: Given, report: Report, walk: Walk, root: Life) -> Seen:
     every = replace(walk.family_world(root, walk.end(root)), lineage=frozenset(each.pid for each in walk.lives))
     groups = [each for each in report.events if each.call == "setgroups" or each.call in BIRTHS]
     facts = facts_of(given.world, report, given.log, every)
-    looked_at = [each for each in facts.made if each.event.call == "execve"
+    looked_at = [each for each in facts.made if each.event.call == "execve" or installs(each.event)
                  or any(leaves_fs_id(each, kind) for kind in ("uid", "gid"))]
     return Seen(given, replace(facts, made=looked_at), Report(report.start, groups))
 
