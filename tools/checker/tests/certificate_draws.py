@@ -22,6 +22,7 @@ INSIDE = (*IDS, -1, 2, 99, 65535)
 MODES = ("4755", "2755", "6755", "4711", "4010", "2070", "2710", "0755", "0750", "6110", "4101", "755", "0", "4000")
 SETS = ("all", "none", "CAP_SETUID", "CAP_SETGID", "CAP_SETPCAP", "CAP_SYS_ADMIN", "CAP_DAC_OVERRIDE", "CAP_SETFCAP",
         "CAP_SETUID,CAP_SETGID", "CAP_KILL", "CAP_SETPCAP,CAP_KILL", "0000000000000085")
+INSTALLED = tuple(call for call in CALLS if call != "exit")     # what an install may name
 Table = dict[str, Any]
 
 
@@ -181,7 +182,8 @@ def drawn_world(draw: Draw) -> str:
 
 def drawn_call(draw: Draw, names: list[str]) -> str:
     """A call with its arguments."""
-    call = draw.one((*CALLS, "fork", "unshare", "write_uid_map", "write_gid_map", "setresuid", "capset", "execve"))
+    call = draw.one((*CALLS, "fork", "unshare", "write_uid_map", "write_gid_map", "setresuid", "capset", "execve",
+                     "install"))
     space = draw.one((*names, "#1", "#2", "#3", "#4"))
     ids = {"setre": 2, "setres": 3}
     if call.endswith(("uid", "gid")):
@@ -197,6 +199,7 @@ def drawn_call(draw: Draw, names: list[str]) -> str:
         "execve": [draw.one(("-", "/bin/f0", "/bin/f1", "/bin/f2", "/none"))],
         "securebits": [str(draw.one((0, 1, 3, 0x10, 0x40, 0x55, 256, draw.randrange(256))))],
         "keepcaps": [str(draw.one((0, 1, 1, 2)))], "no_new_privs": [str(draw.one((1, 1, 0)))],
+        "install": [draw.one(INSTALLED) for _ in range(draw.randrange(4))],
         **{key: [draw.one((*NUMBERS, "7", "41"))] for key in ("bset_drop", "amb_raise", "amb_lower")},
     }
     return " ".join([call, *given.get(call, [])])
