@@ -353,6 +353,8 @@ def recorded(log: bytes, world: World) -> tuple[str, State] | None:
     replay, lines = Replay(world), list[str]()
     try:
         for event in script.events(log, world):
+            if event.call == "install":
+                return None
             if event.call == "setns" or event.call.startswith("write_"):
                 bodies = file_text(event, replay.state)
             else:
