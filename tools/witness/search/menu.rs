@@ -114,7 +114,7 @@ impl<'a> Menu<'a> {
     /// Filters that exclude one call each, and one that excludes all but exit.
     fn filters(&mut self, pid: u32) {
         let all = (1 << CALLS.len()) - 1 & !(1 << kind(Call::Exit));
-        self.plain(pid, FILTERS.map(|one| 1 << kind(one)).into_iter().chain([all]).map(Call::Install));
+        self.plain(pid, FILTERS.iter().map(|one| 1 << kind(*one)).chain([all]).map(Call::Install));
     }
 
     fn programs(&mut self, pid: u32) {
