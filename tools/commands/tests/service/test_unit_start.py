@@ -329,8 +329,16 @@ class Recorded(Units):
             "the unit one.service, from the execve of its program on, with what systemd had set for it",
             "ExecStartPre=: what these execute isn't recorded"])
         self.assertEqual(os.listdir(self.folder), [])
-        pid = kept.statuses[0].pid
-        self.assertIn(b"sleep", proc.Proc().read(pid, "comm") or b"")       # it runs on
+        self.assertTrue(self.becomes(kept.statuses[0].pid, b"sleep"))      # it runs on
+
+    def becomes(self, pid: int, name: bytes) -> bool:
+        """The process executes that program within ten seconds: the shell looks for it in several folders."""
+        ends = time.monotonic() + 10
+        while name not in (proc.Proc().read(pid, "comm") or b""):
+            if time.monotonic() > ends:
+                return False
+            time.sleep(0.05)
+        return True
 
     def test_a_program_that_can_not_be_executed(self) -> None:
         self.unit("ExecStart=" + self.put("program", b"#!/bin/sh\n", 0o644))
